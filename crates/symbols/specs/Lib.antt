@@ -1,0 +1,2 @@
+-- What the contracts on symbols, rules and answers cite.
+pub mod Symbol

@@ -1,0 +1,1 @@
+// Symbols, rules and answers.
