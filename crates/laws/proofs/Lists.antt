@@ -7,12 +7,12 @@ use Prim.Native.Nat.{ℕ, zero, suc, _+_, _≤_, _<_}
 use native.Mathlib.Nat.{le-refl, le-trans}
 use native.Mathlib.Decide.{ℕ-discrete}
 use native.Mathlib.Omega.{arith}
-use lib.Dec.{T}
+use lib.Dec.{T, eqb}
 use lib.ListN.{length, length-append}
 use Rattle.laws.specs.Choice.{_or_, when}
-use Rattle.laws.specs.Lists.{consIf, someIn, keep, firstIn, snocUnless, addNew, joinMap, upFrom, Distinct}
+use Rattle.laws.specs.Lists.{consIf, someIn, allIn, sameList, keep, firstIn, snocUnless, addNew, joinMap, upFrom, Distinct}
 use Rattle.laws.specs.Lists.Distinct.{none, one-more}
-use Rattle.laws.proofs.Tests.{or-either}
+use Rattle.laws.proofs.Tests.{and-both, or-either, eqb-iff}
 
 module _ {A : Type 0} where
   -- ---- tests over a list
@@ -28,6 +28,14 @@ module _ {A : Type 0} where
     λ t. ⊎-elim (λ p. (x, here refl, p)) (λ q. let (y, m, p) = some-in f l .0 q in (y, there m, p)) (or-either (f x) (someIn f l) .0 t),
     λ (y, m, p). or-either (f x) (someIn f l) .1
         (⊎-elim (λ e. inl (subst (λ z. T (f z)) e p)) (λ n. inr (some-in f l .1 (y, n, p))) (List·Memᴰ·cases-cons m)),
+  )
+
+  pub all-in : (f : A → Bool) (l : List A) → T (allIn f l) ↔ ((x : A) → In x l → T (f x))
+  all-in f [] = (λ t x m. absurd (List·Memᴰ·not-nil m), λ h. tt)
+  all-in f (y ∷ l) = (
+    λ t x m. let (p, q) = and-both (f y) (allIn f l) .0 t in
+        ⊎-elim (λ e. subst (λ z. T (f z)) (sym e) p) (λ n. all-in f l .0 q x n) (List·Memᴰ·cases-cons m),
+    λ h. and-both (f y) (allIn f l) .1 (h y (here refl), all-in f l .1 (λ x m. h x (there m))),
   )
 
   pub in-keep : (f : A → Bool) (l : List A) {x : A} → In x (keep f l) ↔ (In x l × T (f x))
@@ -130,3 +138,16 @@ in-up i (suc n) {k} = (
   λ m. ⊎-elim (λ e. (omega arith, omega arith)) (λ r. let q = in-up (suc i) n .0 r in (omega arith, omega arith)) (List·Memᴰ·cases-cons m),
   λ (a, b). elim (ℕ-discrete k i) [ yes e ↦ here e | no d ↦ there (in-up (suc i) n .1 (omega arith, omega arith)) ],
 )
+
+pub same-list : (a b : List ℕ) → T (sameList a b) ↔ (a ≡ b)
+same-list a b = (to a b, λ e. subst (λ l. T (sameList a l)) e (self a))
+  where
+    to : (a b : List ℕ) → T (sameList a b) → a ≡ b
+    to [] [] t = refl
+    to [] (y ∷ b) t = absurd t
+    to (x ∷ a) [] t = absurd t
+    to (x ∷ a) (y ∷ b) t = let (p, q) = and-both (eqb x y) (sameList a b) .0 t in λ i. eqb-iff x y .0 p i ∷ to a b q i
+
+    self : (a : List ℕ) → T (sameList a a)
+    self [] = tt
+    self (x ∷ a) = and-both (eqb x x) (sameList a a) .1 (eqb-iff x x .1 refl, self a)

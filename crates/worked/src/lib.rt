@@ -1,0 +1,1 @@
+// 01's worked lines, computed on the model. No code.
