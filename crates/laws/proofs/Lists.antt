@@ -9,7 +9,7 @@ use native.Mathlib.Decide.{ℕ-discrete}
 use native.Mathlib.Omega.{arith}
 use lib.Dec.{T, eqb}
 use lib.ListN.{length, length-append}
-use Rattle.laws.specs.Choice.{_or_, when}
+use Rattle.laws.specs.Choice.{when}
 use Rattle.laws.specs.Lists.{consIf, someIn, allIn, sameList, keep, firstIn, snocUnless, addNew, joinMap, upFrom, Distinct}
 use Rattle.laws.specs.Lists.Distinct.{none, one-more}
 use Rattle.laws.proofs.Tests.{and-both, or-either, eqb-iff}

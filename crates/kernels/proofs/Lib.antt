@@ -1,0 +1,7 @@
+-- The laws, by what they speak of.
+pub mod Walk
+pub mod Bit
+pub mod Write
+pub mod Kernel
+pub mod NextBit
+pub mod FindSet

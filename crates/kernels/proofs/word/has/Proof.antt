@@ -1,0 +1,16 @@
+-- `kernels::word::has` meets its contract. Assumes nothing.
+use mathlib.Core.Path.{refl}
+use borrow.Author.Needs.{needs}
+use Rattle.kernels.specs.Bit.{bit}
+use Rattle.kernels.proofs.word.has.Statement.{statement}
+use Rattle.kernels.proofs.word.has.Tie as tie
+
+shr-result : tie.Need-shr-result
+shr-result c = search needs
+
+returns : tie.Need-returns
+unfolding bit
+returns c = refl
+
+pub has-spec : {M : Type 1} → statement M
+has-spec = tie.close (tie.spec shr-result returns)
