@@ -1,0 +1,9 @@
+-- The theorems.
+pub mod Symbols
+pub mod Items
+pub mod Closure
+pub mod Kernels
+pub mod Sets
+pub mod Leading
+pub mod Expansion
+pub mod Formed
