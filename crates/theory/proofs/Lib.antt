@@ -6,4 +6,9 @@ pub mod Kernels
 pub mod Sets
 pub mod Leading
 pub mod Expansion
+pub mod Transitions
+pub mod Reach
+pub mod Freed
+pub mod FormReach
 pub mod Formed
+pub mod Carry
