@@ -12,3 +12,4 @@ pub mod Freed
 pub mod FormReach
 pub mod Formed
 pub mod Carry
+pub mod Grown
