@@ -1,11 +1,11 @@
 -- The rules after collection: a withdrawn number is free, every other is as it was. Assumes nothing.
 use mathlib.Core.Path.{_≡_, refl, sym, _∙_, ap, subst}
 use mathlib.Core.Logic.{_↔_, _≢_, _⊎_, inl, inr, ⊎-elim}
-use mathlib.Core.List.{List, [], _∷_, map}
-use Prim.Native.Nat.{ℕ, zero, suc}
+use mathlib.Core.List.{List, map}
+use Prim.Native.Nat.{ℕ}
 use native.Mathlib.Omega.{arith}
 use lib.Dec.{T, eqb}
-use lib.ListN.{length, getD, List·getD-map}
+use lib.ListN.{getD, List·getD-map}
 use Rattle.laws.proofs.Choice.{when-cases}
 use Rattle.laws.proofs.Tests.{eqb-iff}
 use Rattle.theory.specs.Table.{FREE, CURRENT, WITHDRAWN, RulePlace, freeRule, ruleAt}

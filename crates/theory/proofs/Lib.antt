@@ -9,7 +9,12 @@ pub mod Expansion
 pub mod Transitions
 pub mod Reach
 pub mod Freed
+pub mod Form
 pub mod FormReach
+pub mod FormNew
+pub mod FormCollected
+pub mod FormRestarted
 pub mod Formed
 pub mod Carry
 pub mod Grown
+pub mod Later
