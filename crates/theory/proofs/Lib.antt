@@ -18,3 +18,6 @@ pub mod Formed
 pub mod Carry
 pub mod Grown
 pub mod Later
+pub mod Consistent
+pub mod FormGrown
+pub mod Keeping
