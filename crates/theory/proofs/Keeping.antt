@@ -16,7 +16,7 @@ use Rattle.theory.specs.Form.{InForm, InUse, Named, Current}
 use Rattle.theory.specs.Expansion.{closure, moved, symbols, freed, collected, grown, hasRoom, expand}
 use Rattle.theory.specs.Calls.{poolsInRange, newTable, restarted}
 use Rattle.theory.proofs.Items.{current-is, moved-dot}
-use Rattle.theory.proofs.Kernels.{in-moved, symbol-range}
+use Rattle.theory.proofs.Kernels.{in-moved, symbol-range, moved-some}
 use Rattle.theory.proofs.Freed.{current-stays, used-stays}
 use Rattle.theory.proofs.FormReach.{reach-current}
 use Rattle.theory.proofs.FormNew.{new-in-form}
@@ -51,8 +51,13 @@ new-consistent s r h = record {
   form = new-in-form s r h;
   lefts = λ q d. absurd (d (ap (λ p. p .state) (no-rule r q)));
   dots = λ v z i m. absurd (⊎-elim (λ e. List·Memᴰ·not-nil (subst (λ p. In i (p .kernel)) e m)) (λ e. List·Memᴰ·not-nil (subst (λ p. In i (p .kernel)) e m)) (new-set (pred s) v));
+  some = λ v z d. absurd (d (only-start v z));
   fresh = λ v z. absurd (⊎-elim (λ e. omega (arith, ap (λ p. p .state) (sym e) ∙ z)) (λ e. omega (arith, ap (λ p. p .state) (sym e) ∙ z)) (new-set (pred s) v));
 }
+  where
+    only-start : (v : ℕ) → v ≢ 0 → setAt (newTable s r .sets) v .state ≡ FREE
+    only-start zero z = absurd (z refl)
+    only-start (suc v) z = ap (λ p. p .state) (no-set (pred s) v)
 
 -- ---- closures of kernels that name current rules only, over rules of which the same are current
 
@@ -86,6 +91,7 @@ collected-consistent t 𝓒 = record {
   form = collected-in-form t 𝓕;
   lefts = λ r d. let e = used-stays (t .rules) r d in subst (λ p. T (nonterminal (p .left))) (sym e) (𝓒 .lefts r (λ z. d (ap (λ p. p .state) e ∙ z)));
   dots = λ s z i m. ⊎-elim (λ (h, e). 𝓒 .dots s z i (subst (λ p. In i (p .kernel)) e m)) (λ e. absurd (List·Memᴰ·not-nil (subst (λ p. In i (p .kernel)) e m))) (collected-or 𝓕 s);
+  some = λ s z d. ⊎-elim (λ (h, e) q. 𝓒 .some s z (reach-used 𝓕 h) (ap (λ p. p .kernel) (sym e) ∙ q)) (λ e. absurd (d (ap (λ p. p .state) e))) (collected-or 𝓕 s);
   fresh = λ s z. ⊎-elim (λ (h, e). still s h e (ap (λ p. p .state) (sym e) ∙ z)) (λ e. absurd (omega (arith, ap (λ p. p .state) (sym e) ∙ z))) (collected-or 𝓕 s);
 }
   where
@@ -106,6 +112,7 @@ restarted-consistent t 𝓒 = collected-consistent bare (record {
   form = form.start-bare t 𝓕;
   lefts = 𝓒 .lefts;
   dots = λ s z i m. 𝓒 .dots s z i (subst (In i) (form.kernels t 𝓕 s) m);
+  some = λ s z d q. 𝓒 .some s z (λ y. d (ap (λ p. p .state) (form.at-other t 𝓕 s z) ∙ y)) (sym (form.kernels t 𝓕 s) ∙ q);
   fresh = λ s z. elim (ℕ-discrete s 0) [
     | yes e ↦ absurd (omega (arith, ap (λ s. setAt (bare .sets) s .state) (sym e) ∙ z, ap (λ p. p .state) (form.at-0 t 𝓕)))
     | no d ↦ let e = form.at-other t 𝓕 s d in
@@ -140,6 +147,13 @@ module _ (t : Table) (𝓒 : Consistent t) (u : ℕ) (v : setAt (t .sets) u .sta
   dots′ s (is-old d e) z i m = 𝓒 .dots s z i (subst (λ p. In i (p .kernel)) e m)
   dots′ s (is-new d y x j e) z i m = moved-dots x j i (subst (λ p. In i (p .kernel)) e m)
 
+  some′ : (s : ℕ) → Kind s → s ≢ 0 → InUse (grown t u .table .sets) s → setAt (grown t u .table .sets) s .kernel ≢ []
+  some′ s (is-u e) z d q =
+      let h : InUse (t .sets) s = λ y. omega (arith, ap (λ s. setAt (t .sets) s .state) e) in
+      𝓒 .some s z h (sym (grown-kernel t 𝓕 u v ok s h) ∙ q)
+  some′ s (is-old _ e) z d q = 𝓒 .some s z (λ y. d (ap (λ p. p .state) e ∙ y)) (ap (λ p. p .kernel) (sym e) ∙ q)
+  some′ s (is-new _ y x j e) z d q = moved-some (t .rules) (setAt (t .sets) u .kernel) (ruled 𝓕) (ranged 𝓕 u) x j (ap (λ p. p .kernel) (sym e) ∙ q)
+
   fresh′ : (s : ℕ) → Kind s → setAt (grown t u .table .sets) s .state ≡ EXPANDED → Expanded (grammar (t .rules)) (automaton (grown t u .table)) s
   fresh′ s (is-u e) z = subst (Expanded (grammar (t .rules)) (automaton (grown t u .table))) (sym e) (grown-expanded t 𝓕 u v ok)
   fresh′ s (is-old d e) z =
@@ -152,6 +166,7 @@ module _ (t : Table) (𝓒 : Consistent t) (u : ℕ) (v : setAt (t .sets) u .sta
     form = grown-in-form t 𝓕 u v ok;
     lefts = 𝓒 .lefts;
     dots = λ s. dots′ s (grown-place t 𝓕 u v ok s);
+    some = λ s. some′ s (grown-place t 𝓕 u v ok s);
     fresh = λ s. fresh′ s (grown-place t 𝓕 u v ok s);
   }
 

@@ -11,13 +11,14 @@ pub mod Reach
 pub mod Freed
 pub mod Form
 pub mod FormReach
+pub mod Formed
 pub mod FormNew
 pub mod FormCollected
 pub mod FormRestarted
-pub mod Formed
 pub mod Carry
 pub mod Grown
 pub mod Later
 pub mod Consistent
 pub mod FormGrown
 pub mod Keeping
+pub mod Changed
