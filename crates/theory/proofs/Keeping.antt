@@ -15,7 +15,7 @@ use Rattle.theory.specs.Table.Reach.{at-start, along}
 use Rattle.theory.specs.Form.{InForm, InUse, Named, Current}
 use Rattle.theory.specs.Expansion.{closure, moved, symbols, freed, collected, grown, hasRoom, expand}
 use Rattle.theory.specs.Calls.{poolsInRange, newTable, restarted}
-use Rattle.theory.proofs.Items.{current-is, moved-dot}
+use Rattle.theory.proofs.Items.{current-is, moved-dot, closure-current}
 use Rattle.theory.proofs.Kernels.{in-moved, symbol-range, moved-some}
 use Rattle.theory.proofs.Freed.{current-stays, used-stays}
 use Rattle.theory.proofs.FormReach.{reach-current}
@@ -62,27 +62,26 @@ new-consistent s r h = record {
 -- ---- closures of kernels that name current rules only, over rules of which the same are current
 
 module _ (rs rs′ : List RulePlace) {K : Items}
-    (on : (r : ℕ) → Current rs r → ruleAt rs′ r ≡ ruleAt rs r) (names : (r d : ℕ) → K r d → Current rs r) where
-  closure-current : {r d : ℕ} → Closure (grammar rs) K r d → Current rs r
-  closure-current (kernel k) = names _ _ k
-  closure-current (added {r′ = r} c n t cur e) = current-is rs r .0 cur
-
+    (on : (r : ℕ) → Current rs r → ruleAt rs′ r ≡ ruleAt rs r) (names : (r d : ℕ) → K r d → T (grammar rs .current r)) where
   closure-on : {r d : ℕ} → Closure (grammar rs) K r d → Closure (grammar rs′) K r d
   closure-on (kernel k) = kernel k
-  closure-on (added {r = r} {d = d} {x = x} {r′ = r′} c n t cur e) =
-      let p = on r (closure-current c) in
+  closure-on (added {r = r} {d = d} {r′ = r′} c n t cur e) =
+      let p = on r (current-is rs r .0 (closure-current names c)) in
       let q = on r′ (current-is rs r′ .0 cur) in
       added (closure-on c) (record { inside = subst (λ p. d < length (p .right)) (sym p) (n .inside); is = ap (λ p. getD (p .right) d 0) p ∙ n .is }) t
       (current-is rs′ r′ .1 (ap (λ p. p .state) q ∙ current-is rs r′ .0 cur)) (ap (λ p. p .left) q ∙ e)
 
-agree-current : (rs rs′ : List RulePlace) (K : Items) → ((r : ℕ) → Current rs r → ruleAt rs′ r ≡ ruleAt rs r) → ((r : ℕ) → Current rs′ r → ruleAt rs r ≡ ruleAt rs′ r)
+pub agree-current : (rs rs′ : List RulePlace) (K : Items) → ((r : ℕ) → Current rs r → ruleAt rs′ r ≡ ruleAt rs r) → ((r : ℕ) → Current rs′ r → ruleAt rs r ≡ ruleAt rs′ r)
     → ((r d : ℕ) → K r d → Current rs r) → Agree (grammar rs) (grammar rs′) K
 agree-current rs rs′ K on back names = record {
-  on = λ r d c. closure-on rs rs′ on names c;
-  back = λ r d c. closure-on rs′ rs back (λ r d k. ap (λ p. p .state) (on r (names r d k)) ∙ names r d k) c;
-  left = λ r d c. ap (λ p. p .left) (on r (closure-current rs rs′ on names c));
-  right = λ r d c. ap (λ p. p .right) (on r (closure-current rs rs′ on names c));
+  on = λ r d c. closure-on rs rs′ on cur c;
+  back = λ r d c. closure-on rs′ rs back (λ r d k. current-is rs′ r .1 (ap (λ p. p .state) (on r (names r d k)) ∙ names r d k)) c;
+  left = λ r d c. ap (λ p. p .left) (on r (current-is rs r .0 (closure-current cur c)));
+  right = λ r d c. ap (λ p. p .right) (on r (current-is rs r .0 (closure-current cur c)));
 }
+  where
+    cur : (r d : ℕ) → K r d → T (grammar rs .current r)
+    cur r d k = current-is rs r .1 (names r d k)
 
 -- ---- Collect
 

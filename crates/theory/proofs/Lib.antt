@@ -22,3 +22,4 @@ pub mod Consistent
 pub mod FormGrown
 pub mod Keeping
 pub mod Changed
+pub mod Changes
