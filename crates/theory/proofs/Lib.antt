@@ -23,3 +23,4 @@ pub mod FormGrown
 pub mod Keeping
 pub mod Changed
 pub mod Changes
+pub mod Accepted

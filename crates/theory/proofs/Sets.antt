@@ -87,6 +87,11 @@ module _ {A : Type 0} where
   index-of d [] m = absurd (List·Memᴰ·not-nil m)
   index-of d (y ∷ l) m = ⊎-elim (λ e. (0, omega arith, e)) (λ n. let (s, h, e) = index-of d l n in (suc s, omega arith, e)) (List·Memᴰ·cases-cons m)
 
+  pub element-at : (d : A) (l : List A) (s : ℕ) → s < length l → In (getD l s d) l
+  element-at d [] s h = absurd (omega arith)
+  element-at d (x ∷ l) zero h = here refl
+  element-at d (x ∷ l) (suc s) h = there (element-at d l s (omega arith))
+
 -- a free place taken is one free place less
 pub free-less : (ss : List SetPlace) (f : ℕ) (q : SetPlace) → f < length ss → setAt ss f .state ≡ FREE → q .state ≢ FREE → suc (freeSets (set ss f q)) ≡ freeSets ss
 unfolding when

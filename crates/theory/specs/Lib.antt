@@ -11,3 +11,4 @@ pub mod Steps
 pub mod Form
 pub mod Calls
 pub mod Made
+pub mod Changes
