@@ -32,7 +32,7 @@ use Rattle.theory.proofs.Consistent.{Consistent}
 
 -- ---- New
 
-no-rule : (k r : ℕ) → ruleAt (replicate k freeRule) r ≡ freeRule
+pub no-rule : (k r : ℕ) → ruleAt (replicate k freeRule) r ≡ freeRule
 no-rule zero r = refl
 no-rule (suc k) zero = refl
 no-rule (suc k) (suc r) = no-rule k r

@@ -32,3 +32,4 @@ pub mod Grounded
 pub mod Steps
 pub mod Checks
 pub mod History
+pub mod Rules
