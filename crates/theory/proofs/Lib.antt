@@ -23,6 +23,7 @@ pub mod Consistent
 pub mod Keeping
 pub mod Changed
 pub mod Changes
+pub mod ChangeExact
 pub mod Accepted
 pub mod Derivation
 pub mod Exact

@@ -4,8 +4,9 @@ use mathlib.Core.Logic.{_↔_, _≢_}
 use mathlib.Core.List.{List}
 use Prim.Native.Nat.{ℕ, _<_}
 use lib.ListN.{length}
+use Rattle.symbols.specs.Symbol.{START}
 use Rattle.theory.specs.Items.{SameExpansion}
-use Rattle.theory.specs.Table.{FREE, WITHDRAWN, Table, ruleAt, grammar, automaton}
+use Rattle.theory.specs.Table.{FREE, WITHDRAWN, UNEXPANDED, EXPANDED, Table, ruleAt, setAt, grammar, automaton}
 
 -- set s has the same kernel in both tables, and its fresh expansion is the same by the rules of both
 pub record SameSet (t t′ : Table) (s : ℕ) : Type 0 where
@@ -16,3 +17,12 @@ pub record SameSet (t t′ : Table) (s : ℕ) : Type 0 where
 pub record CollectsFirst (t : Table) (x : ℕ) (w : List ℕ) : Type 0 where
   pub none-free : (r : ℕ) → r < length (t .rules) → ruleAt (t .rules) r .state ≢ FREE
   pub none-equal : (r : ℕ) → ruleAt (t .rules) r .state ≡ WITHDRAWN → ruleAt (t .rules) r .left ≡ x → ruleAt (t .rules) r .right ≢ w
+
+-- The change of a rule of x, from table t to table t′, removes the expansion of exactly those expanded sets whose kernel or fresh
+-- expansion it changes; all other sets keep number, kernel and expansion. Said of the sets that collection did not free first
+pub record ExactChange (t t′ : Table) (x : ℕ) (Kept : ℕ → Type 0) : Type 0 where
+  pub removes : (s : ℕ) → Kept s → setAt (t .sets) s .state ≡ EXPANDED → (setAt (t′ .sets) s .state ≡ UNEXPANDED) ↔ (SameSet t t′ s → ⊥)
+  pub keeps : (s : ℕ) → Kept s → setAt (t .sets) s .state ≡ EXPANDED → setAt (t′ .sets) s .state ≢ UNEXPANDED → setAt (t′ .sets) s ≡ setAt (t .sets) s
+  pub others : (s : ℕ) → Kept s → setAt (t .sets) s .state ≢ EXPANDED → (x ≡ START → s ≢ 0) → setAt (t′ .sets) s ≡ setAt (t .sets) s
+  -- "For a START rule it is set 0 alone, whose kernel also changes"
+  pub kernels : (s : ℕ) → Kept s → (x ≡ START → s ≢ 0) → setAt (t′ .sets) s .kernel ≡ setAt (t .sets) s .kernel
