@@ -20,7 +20,7 @@ use Rattle.theory.specs.Changes.{SameSet, ExactChange}
 use Rattle.theory.proofs.Items.{current-is, in-start, moved-back}
 use Rattle.theory.proofs.FormReach.{set-form, transition-goto}
 use Rattle.theory.proofs.Formed.{rule-free, transition-expanded, start-items}
-use Rattle.theory.proofs.Carry.{same-expansion}
+use Rattle.theory.proofs.Carry.{same-expansion, same-flip}
 use Rattle.theory.proofs.Consistent.{Consistent}
 use Rattle.theory.proofs.Changed as changed
 use Rattle.theory.proofs.Changed.{Change, Touched}
@@ -38,13 +38,6 @@ gone {G} {H} {K} n c f l z S = go (G .right n) refl
     go (y ∷ w) e =
         let q : zero < length (G .right n) = omega (arith, ap length e) in
         f (moved-back (S .leads y n 1 .0 (moved c (record { inside = q; is = ap (λ w. getD w 0 0) e }))) .0)
-
-flip : {G H : Grammar} {K : Items} → SameExpansion G H K → SameExpansion H G K
-flip S = record {
-  leads = λ x r d. (S .leads x r d .1, S .leads x r d .0);
-  reduces = λ r. (S .reduces r .1, S .reduces r .0);
-  accepts = (S .accepts .1, S .accepts .0);
-}
 
 -- a rule that is not current comes from the kernel alone
 not-added : (rs : List RulePlace) {K : Items} {n : ℕ} → (K n zero → ⊥) → ruleAt rs n .state ≢ CURRENT → Closure (grammar rs) K n zero → ⊥
@@ -85,7 +78,7 @@ module _ (t : Table) (𝓒 : Consistent t) (n : ℕ) (p : RulePlace) (𝓝 : Cha
       let x = subst (Next (grammar (t .rules)) r d) e x₀ in
       ⊎-elim
       (λ (before, now). gone n (changed.enters t 𝓒 n p 𝓝 (automaton t .Kernel s) (λ r d m. set-form t 𝓕 s .items (item r d) m .0) before now c x)
-      (not-added (t .rules) (not-in l s) before) (λ z. l (ap (λ q. q .left) (sym at) ∙ z)) shorter (flip S))
+      (not-added (t .rules) (not-in l s) before) (λ z. l (ap (λ q. q .left) (sym at) ∙ z)) shorter (same-flip S))
       (λ (before, now).
       let b = left-n (λ z. omega arith) in
       gone n (added c x (𝓝 .left) (current-is (t .rules) n .1 before) b)
@@ -132,10 +125,10 @@ module _ (t : Table) (𝓒 : Consistent t) (n : ℕ) (p : RulePlace) (𝓝 : Cha
   others s (shut l a m i e) u d = absurd (u (transition-expanded 𝓕 s a m))
   others s (left-be l g e) u d = e
 
-  pub put-exact : (Kept : ℕ → Type 0) → ExactChange t (putRule t n p) (p .left) Kept
-  put-exact Kept = record {
-    removes = λ s k. removes s (changed.kind t 𝓒 n p 𝓝 s);
-    keeps = λ s k y. keeps s (changed.kind t 𝓒 n p 𝓝 s);
-    others = λ s k. others s (changed.kind t 𝓒 n p 𝓝 s);
-    kernels = λ s k. changed.kernel-same t 𝓒 n p 𝓝 s;
+  pub put-exact : (s : ℕ) → ExactChange t (putRule t n p) (p .left) s
+  put-exact s = let k = changed.kind t 𝓒 n p 𝓝 s in record {
+    removes = removes s k;
+    keeps = λ y. keeps s k;
+    others = others s k;
+    kernel = changed.kernel-same t 𝓒 n p 𝓝 s;
   }

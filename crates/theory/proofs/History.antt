@@ -25,6 +25,18 @@ use Rattle.theory.proofs.Checks.{parse-keeps}
 pub checked-is : {t : Table} → InForm t → (o : Outcome) → calls.checked t o ≡ o
 checked-is {t} 𝓕 o = when-cases (λ (p : Outcome). p ≡ o) (inForm t) (λ e. refl) (λ e. absurd (subst T e (in-form t .1 𝓕)))
 
+-- an accepted addition or withdrawal is a change of one rule
+accepted : {t : Table} (D : Outcome → Type 0) (o : Outcome) → Either t D o → o .answer ≡ 0 → D o
+accepted D o (inl (a, e)) z = absurd (a z)
+accepted D o (inr (a, d)) z = d
+
+module _ (t : Table) (𝓒 : Consistent t) (x : ℕ) (w : List ℕ) where
+  pub add-accepted : calls.add t x w .answer ≡ 0 → Added t x w (calls.add t x w)
+  add-accepted = subst (λ (o : Outcome). o .answer ≡ 0 → Added t x w o) (sym (checked-is (𝓒 .form) (calls.addInForm t x w))) (accepted (Added t x w) (calls.addInForm t x w) (add-or t 𝓒 x w))
+
+  pub delete-accepted : calls.delete t x w .answer ≡ 0 → Deleted t x w (calls.delete t x w)
+  delete-accepted = subst (λ (o : Outcome). o .answer ≡ 0 → Deleted t x w o) (sym (checked-is (𝓒 .form) (calls.deleteInForm t x w))) (accepted (Deleted t x w) (calls.deleteInForm t x w) (delete-or t 𝓒 x w))
+
 either-consistent : {t : Table} {D : Outcome → Type 0} {o : Outcome} → Consistent t → ((o : Outcome) → D o → Consistent (o .table)) → Either t D o → Consistent (o .table)
 either-consistent {t} {o = o} 𝓒 f (inl (a, e)) = subst Consistent (sym e) 𝓒
 either-consistent {o = o} 𝓒 f (inr (a, d)) = f o d

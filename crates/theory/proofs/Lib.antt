@@ -34,3 +34,6 @@ pub mod Steps
 pub mod Checks
 pub mod History
 pub mod Rules
+pub mod AddExact
+pub mod Generation
+pub mod Demand3

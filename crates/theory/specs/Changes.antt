@@ -18,11 +18,11 @@ pub record CollectsFirst (t : Table) (x : ℕ) (w : List ℕ) : Type 0 where
   pub none-free : (r : ℕ) → r < length (t .rules) → ruleAt (t .rules) r .state ≢ FREE
   pub none-equal : (r : ℕ) → ruleAt (t .rules) r .state ≡ WITHDRAWN → ruleAt (t .rules) r .left ≡ x → ruleAt (t .rules) r .right ≢ w
 
--- The change of a rule of x, from table t to table t′, removes the expansion of exactly those expanded sets whose kernel or fresh
--- expansion it changes; all other sets keep number, kernel and expansion. Said of the sets that collection did not free first
-pub record ExactChange (t t′ : Table) (x : ℕ) (Kept : ℕ → Type 0) : Type 0 where
-  pub removes : (s : ℕ) → Kept s → setAt (t .sets) s .state ≡ EXPANDED → (setAt (t′ .sets) s .state ≡ UNEXPANDED) ↔ (SameSet t t′ s → ⊥)
-  pub keeps : (s : ℕ) → Kept s → setAt (t .sets) s .state ≡ EXPANDED → setAt (t′ .sets) s .state ≢ UNEXPANDED → setAt (t′ .sets) s ≡ setAt (t .sets) s
-  pub others : (s : ℕ) → Kept s → setAt (t .sets) s .state ≢ EXPANDED → (x ≡ START → s ≢ 0) → setAt (t′ .sets) s ≡ setAt (t .sets) s
-  -- "For a START rule it is set 0 alone, whose kernel also changes"
-  pub kernels : (s : ℕ) → Kept s → (x ≡ START → s ≢ 0) → setAt (t′ .sets) s .kernel ≡ setAt (t .sets) s .kernel
+-- The change of a rule of x, from table t to table t′, treats set s exactly: an expanded set loses its expansion if and only if its
+-- kernel or its fresh expansion changes, and otherwise it is as it was; a set that is not expanded is as it was. Only the start set
+-- gets another kernel, and from a START rule only ("For a START rule it is set 0 alone, whose kernel also changes")
+pub record ExactChange (t t′ : Table) (x s : ℕ) : Type 0 where
+  pub removes : setAt (t .sets) s .state ≡ EXPANDED → (setAt (t′ .sets) s .state ≡ UNEXPANDED) ↔ (SameSet t t′ s → ⊥)
+  pub keeps : setAt (t .sets) s .state ≡ EXPANDED → setAt (t′ .sets) s .state ≢ UNEXPANDED → setAt (t′ .sets) s ≡ setAt (t .sets) s
+  pub others : setAt (t .sets) s .state ≢ EXPANDED → (x ≡ START → s ≢ 0) → setAt (t′ .sets) s ≡ setAt (t .sets) s
+  pub kernel : (x ≡ START → s ≢ 0) → setAt (t′ .sets) s .kernel ≡ setAt (t .sets) s .kernel
