@@ -14,12 +14,10 @@ use Rattle.theory.specs.Form.{InForm}
 use Rattle.theory.specs.Parse.{Outcome}
 use Rattle.theory.specs.Calls.{putRule}
 use Rattle.theory.specs.Changes.{SameSet, CollectsFirst, ExactChange}
-use Rattle.theory.proofs.Freed.{current-stays, used-stays}
-use Rattle.theory.proofs.FormReach.{reach-current}
 use Rattle.theory.proofs.Formed.{reach-same, collected-or}
 use Rattle.theory.proofs.Carry.{same-expansion, same-flip, same-trans}
 use Rattle.theory.proofs.Consistent.{Consistent}
-use Rattle.theory.proofs.Keeping.{agree-current}
+use Rattle.theory.proofs.Keeping.{collected-agree}
 use Rattle.theory.proofs.Changed.{Touched, kind}
 use Rattle.theory.proofs.Changed.Touched.{anew, shut, left-be}
 use Rattle.theory.proofs.ChangeExact.{put-exact}
@@ -31,8 +29,7 @@ module _ {t : Table} (𝓕 : InForm t) (t′ : Table) {s : ℕ} (h : Reach t s) 
   stays = reach-same 𝓕 h
 
   collected-same : SameExpansion (grammar (t .rules)) (grammar (map freed (t .rules))) (automaton t .Kernel s)
-  collected-same = same-expansion (agree-current (t .rules) (map freed (t .rules)) (automaton t .Kernel s) (current-stays (t .rules))
-      (λ r c. sym (used-stays (t .rules) r (λ z. omega arith))) (λ r d m. reach-current t 𝓕 h (item r d) m))
+  collected-same = same-expansion (collected-agree t 𝓕 h)
 
   Same : Grammar → SetPlace → Type 0
   Same G p = SameExpansion G (grammar (t′ .rules)) (λ r d. In (item r d) (p .kernel))

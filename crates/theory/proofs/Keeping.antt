@@ -71,7 +71,7 @@ module _ (rs rs′ : List RulePlace) {K : Items}
       added (closure-on c) (record { inside = subst (λ p. d < length (p .right)) (sym p) (n .inside); is = ap (λ p. getD (p .right) d 0) p ∙ n .is }) t
       (current-is rs′ r′ .1 (ap (λ p. p .state) q ∙ current-is rs r′ .0 cur)) (ap (λ p. p .left) q ∙ e)
 
-pub agree-current : (rs rs′ : List RulePlace) (K : Items) → ((r : ℕ) → Current rs r → ruleAt rs′ r ≡ ruleAt rs r) → ((r : ℕ) → Current rs′ r → ruleAt rs r ≡ ruleAt rs′ r)
+agree-current : (rs rs′ : List RulePlace) (K : Items) → ((r : ℕ) → Current rs r → ruleAt rs′ r ≡ ruleAt rs r) → ((r : ℕ) → Current rs′ r → ruleAt rs r ≡ ruleAt rs′ r)
     → ((r d : ℕ) → K r d → Current rs r) → Agree (grammar rs) (grammar rs′) K
 agree-current rs rs′ K on back names = record {
   on = λ r d c. closure-on rs rs′ on cur c;
@@ -84,6 +84,12 @@ agree-current rs rs′ K on back names = record {
     cur r d k = current-is rs r .1 (names r d k)
 
 -- ---- Collect
+
+-- the closures of the kernels that collection keeps are the same before and after it
+pub collected-agree : (t : Table) → InForm t → {s : ℕ} → Reach t s → Agree (grammar (t .rules)) (grammar (map freed (t .rules))) (automaton t .Kernel s)
+collected-agree t 𝓕 {s} h =
+    agree-current (t .rules) (map freed (t .rules)) (automaton t .Kernel s) (current-stays (t .rules))
+    (λ r c. sym (used-stays (t .rules) r (λ z. omega arith))) (λ r d m. reach-current t 𝓕 h (item r d) m)
 
 pub collected-consistent : (t : Table) → Consistent t → Consistent (collected t)
 collected-consistent t 𝓒 = record {
@@ -99,10 +105,8 @@ collected-consistent t 𝓒 = record {
 
     still : (s : ℕ) → Reach t s → setAt (collected t .sets) s ≡ setAt (t .sets) s → setAt (t .sets) s .state ≡ EXPANDED → Expanded (grammar (collected t .rules)) (automaton (collected t)) s
     still s h e z =
-        carry t (collected t) s
-        (agree-current (t .rules) (map freed (t .rules)) (automaton t .Kernel s) (current-stays (t .rules))
-        (λ r c. sym (used-stays (t .rules) r (λ z. omega arith))) (λ r d m. reach-current t 𝓕 h (item r d) m))
-        e (λ x v g. ap (λ p. p .kernel) (reach-same 𝓕 (along x h g))) (𝓒 .fresh s z)
+        carry t (collected t) s (collected-agree t 𝓕 h) e
+        (λ x v g. ap (λ p. p .kernel) (reach-same 𝓕 (along x h g))) (𝓒 .fresh s z)
 
 -- ---- Restart
 

@@ -35,5 +35,6 @@ pub mod Checks
 pub mod History
 pub mod Rules
 pub mod AddExact
+pub mod Counted
 pub mod Generation
 pub mod Demand3
