@@ -36,5 +36,6 @@ pub mod History
 pub mod Rules
 pub mod AddExact
 pub mod Counted
+pub mod Room
 pub mod Generation
 pub mod Demand3
