@@ -1,14 +1,13 @@
 -- Accepted additions and withdrawals are exact changes; an addition that collects first is one of the sets that collection keeps.
 -- Assumes nothing.
 use mathlib.Core.Path.{_≡_, refl, sym, _∙_, ap, subst}
-use mathlib.Core.Logic.{_↔_, _≢_, _⊎_, inl, inr, ⊎-elim}
+use mathlib.Core.Logic.{_↔_, _⊎_, inl, inr, ⊎-elim}
 use mathlib.Core.List.{List, map, List·Memᴰ as In, List·Memᴰ·not-nil}
 use Prim.Native.Nat.{ℕ}
 use native.Mathlib.Omega.{arith}
-use Rattle.symbols.specs.Symbol.{START}
 use Rattle.theory.specs.Derivation.{Grammar}
 use Rattle.theory.specs.Items.{SameExpansion}
-use Rattle.theory.specs.Table.{FREE, CURRENT, WITHDRAWN, SetPlace, Table, freeSet, ruleAt, setAt, item, grammar, automaton, Reach}
+use Rattle.theory.specs.Table.{CURRENT, WITHDRAWN, SetPlace, Table, freeSet, setAt, item, grammar, automaton, Reach}
 use Rattle.theory.specs.Expansion.{freed, collected}
 use Rattle.theory.specs.Form.{InForm}
 use Rattle.theory.specs.Parse.{Outcome}

@@ -1,19 +1,18 @@
 -- A change of one rule removes the expansion of exactly those expanded sets whose fresh expansion it changes: a set with a transition
 -- on the left symbol gains or loses the rule's first item, and so an item of a kernel that it leads to, or a reduction. Assumes nothing.
 use mathlib.Core.Path.{_≡_, refl, sym, _∙_, ap, subst}
-use mathlib.Core.Logic.{_↔_, _≢_, _⊎_, inl, inr, ⊎-elim}
+use mathlib.Core.Logic.{_↔_, _≢_, _⊎_, ⊎-elim}
 use mathlib.Core.List.{List, [], _∷_, List·Memᴰ as In}
-use Prim.Native.Nat.{ℕ, zero, suc, _≤_, _<_}
+use Prim.Native.Nat.{ℕ, zero, _<_}
 use native.Mathlib.Decide.{ℕ-discrete}
 use native.Mathlib.Omega.{arith}
-use lib.Dec.{T}
 use lib.ListN.{length, getD, set}
 use Rattle.symbols.specs.Symbol.{START}
 use Rattle.theory.specs.Derivation.{Grammar}
-use Rattle.theory.specs.Items.{Items, Next, Closure, Moved, SameExpansion, StartItem}
+use Rattle.theory.specs.Items.{Items, Next, Closure, SameExpansion}
 use Rattle.theory.specs.Items.Closure.{kernel, added}
 use Rattle.theory.specs.Items.Moved.{moved}
-use Rattle.theory.specs.Table.{FREE, CURRENT, UNEXPANDED, EXPANDED, RulePlace, Item, Transition, Table, unexpanded, ruleAt, setAt, item, grammar, automaton, startKernel}
+use Rattle.theory.specs.Table.{CURRENT, UNEXPANDED, EXPANDED, RulePlace, Transition, Table, ruleAt, setAt, item, grammar, automaton, startKernel}
 use Rattle.theory.specs.Form.{InForm, Named}
 use Rattle.theory.specs.Calls.{putRule}
 use Rattle.theory.specs.Changes.{SameSet, ExactChange}

@@ -1,8 +1,8 @@
 -- A change of one rule keeps a consistent table consistent, and so in form. Assumes nothing.
 use mathlib.Core.Path.{_≡_, refl, sym, _∙_, ap, subst}
-use mathlib.Core.Logic.{_↔_, _≢_, _⊎_, inl, inr, ⊎-elim}
+use mathlib.Core.Logic.{_≢_, _⊎_, inl, inr, ⊎-elim}
 use mathlib.Core.List.{List, [], _∷_, List·Memᴰ as In, List·Memᴰ·head as here}
-use Prim.Native.Nat.{ℕ, zero, suc, _≤_, _<_, zero-le}
+use Prim.Native.Nat.{ℕ, _≤_}
 use native.Mathlib.Decide.{ℕ-discrete}
 use native.Mathlib.Omega.{arith}
 use lib.Dec.{T, eqb}
@@ -10,12 +10,12 @@ use lib.ListN.{length, set, length-set}
 use Rattle.laws.specs.Lists.{someIn, keep, firstIn, upFrom}
 use Rattle.symbols.specs.Symbol.{START, nonterminal}
 use Rattle.theory.specs.Items.{Expanded, StartItem}
-use Rattle.theory.specs.Table.{FREE, CURRENT, EXPANDED, RulePlace, Item, Transition, SetPlace, Table, freeSet, unexpanded, ruleAt, setAt, item, noTransition, grammar, automaton, startKernel}
+use Rattle.theory.specs.Table.{EXPANDED, RulePlace, Item, Transition, SetPlace, Table, ruleAt, setAt, item, noTransition, grammar, automaton, startKernel}
 use Rattle.theory.specs.Form.{InForm, RuleInForm, SetInForm, Named, InUse, NamesCurrent}
 use Rattle.theory.specs.Calls.{touched, putRule}
 use Rattle.theory.proofs.Items.{Ascends, current-is, in-start, start-ascends, same-kernel, closure-current, moved-current}
 use Rattle.theory.proofs.FormReach.{set-form, rule-form, transition-goto, unexpanded-in-form}
-use Rattle.theory.proofs.Formed.{transition-expanded, reduces-expanded, start-items}
+use Rattle.theory.proofs.Formed.{transition-expanded, reduces-expanded}
 use Rattle.theory.proofs.Consistent.{Consistent}
 use Rattle.theory.proofs.Changed as changed
 use Rattle.theory.proofs.Changed.{Change, Touched}

@@ -1,22 +1,22 @@
 -- The executable closure is the inductive one: on every list of items of the table's rule places. Assumes nothing.
-use mathlib.Core.Path.{_≡_, refl, sym, _∙_, ap, subst}
-use mathlib.Core.Logic.{_↔_, _≢_, _⊎_, inl, inr, ⊎-elim}
-use mathlib.Core.Bool.{Bool, true, false}
-use mathlib.Core.List.{List, [], _∷_, List·Memᴰ as In}
+use mathlib.Core.Path.{_≡_, refl, sym, _∙_, subst}
+use mathlib.Core.Logic.{_↔_, _≢_, inl, inr, ⊎-elim}
+use mathlib.Core.Bool.{Bool, false}
+use mathlib.Core.List.{List, List·Memᴰ as In}
 use Prim.Native.Nat.{ℕ, zero, suc, _≤_, _<_}
 use native.Mathlib.Decide.{decLt}
 use native.Mathlib.Omega.{arith}
 use lib.Dec.{T, eqb}
 use lib.ListN.{length, getD, replicate, length-replicate, List·getD-eq-default}
 use Rattle.laws.specs.Choice.{_and_, _or_}
-use Rattle.laws.specs.Loops.{tab, times}
-use Rattle.laws.specs.Lists.{someIn, keep, unmarked}
-use Rattle.laws.proofs.Tests.{and-both, or-either, eqb-iff, tests}
+use Rattle.laws.specs.Loops.{times}
+use Rattle.laws.specs.Lists.{unmarked}
+use Rattle.laws.proofs.Tests.{and-both, or-either, eqb-iff}
 use Rattle.laws.proofs.Tables.{length-tab, getD-tab}
 use Rattle.laws.proofs.Lists.{some-in, in-keep}
 use Rattle.laws.proofs.Growth.{keeps, settled, Below, unmarked-le, grows}
 use Rattle.symbols.specs.Symbol.{START, nonterminal}
-use Rattle.theory.specs.Items.{Items, Next, Closure}
+use Rattle.theory.specs.Items.{Next, Closure}
 use Rattle.theory.specs.Items.Closure.{kernel, added}
 use Rattle.theory.specs.Table.{CURRENT, RulePlace, Item, ruleAt, item, hasItem, allItems, grammar}
 use Rattle.theory.specs.Expansion.{after, holds, wanted, round, closure}

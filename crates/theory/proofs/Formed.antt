@@ -1,8 +1,8 @@
 -- What every table in form has, for the proofs about its sets: its rules and kernels keep their limits, sets that are not expanded
 -- have nothing but a kernel, and what is reached is what collection leaves. Assumes nothing.
-use mathlib.Core.Path.{_≡_, refl, sym, _∙_, ap, subst}
+use mathlib.Core.Path.{_≡_, sym, ap, subst}
 use mathlib.Core.Logic.{_↔_, _≢_, _⊎_, inl, inr, ⊎-elim}
-use mathlib.Core.List.{List, List·Memᴰ as In, List·Memᴰ·not-nil}
+use mathlib.Core.List.{List·Memᴰ as In, List·Memᴰ·not-nil}
 use Prim.Native.Nat.{ℕ, _≤_, _<_, zero-le}
 use native.Mathlib.Decide.{ℕ-discrete}
 use native.Mathlib.Omega.{arith}

@@ -1,6 +1,6 @@
 -- New makes a consistent table; Collect, Restart and every expansion of a reachable set keep it consistent. Assumes nothing.
 use mathlib.Core.Path.{_≡_, refl, sym, _∙_, ap, subst}
-use mathlib.Core.Logic.{_↔_, _≢_, _⊎_, inl, inr, ⊎-elim}
+use mathlib.Core.Logic.{_≢_, _⊎_, inl, inr, ⊎-elim}
 use mathlib.Core.List.{List, [], _∷_, map, List·Memᴰ as In, List·Memᴰ·not-nil}
 use Prim.Native.Nat.{ℕ, zero, suc, pred, _≤_, _<_}
 use native.Mathlib.Decide.{ℕ-discrete}
@@ -8,11 +8,11 @@ use native.Mathlib.Omega.{arith}
 use lib.Dec.{T}
 use lib.ListN.{length, getD, set, replicate}
 use Rattle.symbols.specs.Symbol.{nonterminal}
-use Rattle.theory.specs.Items.{Items, Next, Closure, Expanded}
+use Rattle.theory.specs.Items.{Items, Closure, Expanded}
 use Rattle.theory.specs.Items.Closure.{kernel, added}
-use Rattle.theory.specs.Table.{FREE, CURRENT, UNEXPANDED, EXPANDED, RulePlace, Item, SetPlace, Table, freeRule, freeSet, unexpanded, ruleAt, setAt, item, grammar, automaton, Reach}
-use Rattle.theory.specs.Table.Reach.{at-start, along}
-use Rattle.theory.specs.Form.{InForm, InUse, Named, Current}
+use Rattle.theory.specs.Table.{FREE, UNEXPANDED, EXPANDED, RulePlace, Item, Table, freeRule, freeSet, unexpanded, ruleAt, setAt, item, grammar, automaton, Reach}
+use Rattle.theory.specs.Table.Reach.{along}
+use Rattle.theory.specs.Form.{InForm, InUse, Current}
 use Rattle.theory.specs.Expansion.{closure, moved, symbols, freed, collected, grown, hasRoom, expand}
 use Rattle.theory.specs.Calls.{poolsInRange, newTable, restarted}
 use Rattle.theory.proofs.Items.{current-is, moved-dot, closure-current}
@@ -24,7 +24,7 @@ use Rattle.theory.proofs.FormCollected.{collected-in-form}
 use Rattle.theory.proofs.FormRestarted as form
 use Rattle.theory.proofs.Formed.{ruled, ranged, goto-used, reach-used, reach-same, collected-or}
 use Rattle.theory.proofs.Carry.{Agree, agree-same, carry}
-use Rattle.theory.proofs.Grown.{Place, grown-place, grown-at, grown-kernel, grown-expanded}
+use Rattle.theory.proofs.Grown.{Place, grown-place, grown-kernel, grown-expanded}
 use Rattle.theory.proofs.Grown.Place.{is-u, is-old, is-new}
 use Rattle.theory.proofs.FormGrown.{grown-in-form}
 use Rattle.theory.proofs.Later.{expand-cases, still-unexpanded}

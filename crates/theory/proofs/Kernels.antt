@@ -1,10 +1,10 @@
 -- The kernels that an expansion leads to: `moved` is the items with the dot moved over a symbol, `symbols` the symbols after a dot;
 -- the kernels are of the table's rule places, ascending, not empty, different for different symbols, with dots of at least 1.
 -- Assumes nothing.
-use mathlib.Core.Path.{_≡_, refl, sym, _∙_, ap, subst}
+use mathlib.Core.Path.{_≡_, refl, sym, _∙_, subst}
 use mathlib.Core.Logic.{_↔_, _≢_}
-use mathlib.Core.Bool.{Bool, true, false}
-use mathlib.Core.List.{List, [], _∷_, map, List·Memᴰ as In, List·Memᴰ·not-nil}
+use mathlib.Core.Bool.{Bool}
+use mathlib.Core.List.{List, [], map, List·Memᴰ as In, List·Memᴰ·not-nil}
 use Prim.Native.Nat.{ℕ, zero, suc, pred, _≤_, _<_}
 use native.Mathlib.Omega.{arith}
 use lib.Dec.{T, eqb, ltb}

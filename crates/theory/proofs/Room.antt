@@ -1,23 +1,23 @@
 -- The Room sentence: an expansion of a reachable set fails exactly when the sets reachable before it, and the kernels it leads to that
 -- none of them has, together outnumber the pool. Assumes nothing.
 use mathlib.Core.Path.{_≡_, refl, sym, _∙_, ap, subst}
-use mathlib.Core.Logic.{_↔_, _≢_, _⊎_, inl, inr, ⊎-elim}
-use mathlib.Core.Bool.{Bool, true, false, not, true≢false}
+use mathlib.Core.Logic.{_↔_, ⊎-elim}
+use mathlib.Core.Bool.{false, not, true≢false}
 use mathlib.Core.List.{List, _++_, map, List·Memᴰ as In, List·Memᴰ·append-cases}
 use Prim.Native.Nat.{ℕ, zero, suc, _+_, _≤_, _<_, zero-le}
 use native.Mathlib.Decide.{ℕ-discrete, decLt}
 use native.Mathlib.Omega.{arith}
-use lib.Dec.{T, eqb, leb}
+use lib.Dec.{T, eqb}
 use lib.ListN.{length, length-append, length-map}
 use Rattle.laws.specs.Lists.{someIn, keep, upFrom, Distinct}
 use Rattle.laws.proofs.Tests.{eqb-iff, leb-iff}
 use Rattle.laws.proofs.Lists.{in-keep, in-map, in-up}
 use Rattle.laws.proofs.Tables.{length-tab}
-use Rattle.theory.specs.Items.{Closure, Moved, Next, SameExpansion}
+use Rattle.theory.specs.Items.{Moved}
 use Rattle.theory.specs.Items.Moved.{moved as move}
-use Rattle.theory.specs.Table.{FREE, UNEXPANDED, RulePlace, Item, SetPlace, Table, freeSet, setAt, item, grammar, automaton, Reach}
+use Rattle.theory.specs.Table.{FREE, UNEXPANDED, Item, SetPlace, Table, freeSet, setAt, item, grammar, automaton, Reach}
 use Rattle.theory.specs.Form.{InForm, InUse}
-use Rattle.theory.specs.Expansion.{after, closure, moved, symbols, setWith, freeSets, freed, collected, missing, hasRoom, Step, expand, grown}
+use Rattle.theory.specs.Expansion.{after, closure, moved, symbols, setWith, freeSets, freed, collected, missing, hasRoom, expand}
 use Rattle.theory.specs.Room.{Lacks, Many}
 use Rattle.theory.proofs.Symbols.{not-eqb}
 use Rattle.theory.proofs.Items.{same-kernel, moved-back, moved-dot}

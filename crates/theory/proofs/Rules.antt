@@ -1,23 +1,22 @@
 -- The current rules of a made table are those that the history left: the accepted additions without the accepted withdrawals.
 -- Assumes nothing.
 use mathlib.Core.Path.{_≡_, refl, sym, _∙_, ap, subst}
-use mathlib.Core.Logic.{_↔_, _≢_, _⊎_, inl, inr, ⊎-elim}
-use mathlib.Core.Bool.{Bool, true, false, not}
-use mathlib.Core.List.{List, [], _∷_, map, List·Memᴰ as In, List·Memᴰ·head as here, List·Memᴰ·tail as there, List·Memᴰ·cases-cons, List·Memᴰ·not-nil}
-use Prim.Native.Nat.{ℕ, _≤_, _<_}
+use mathlib.Core.Logic.{_↔_, _≢_, inl, inr, ⊎-elim}
+use mathlib.Core.Bool.{not}
+use mathlib.Core.List.{List, [], _∷_, List·Memᴰ as In, List·Memᴰ·head as here, List·Memᴰ·tail as there, List·Memᴰ·cases-cons, List·Memᴰ·not-nil}
+use Prim.Native.Nat.{ℕ}
 use native.Mathlib.Decide.{ℕ-discrete}
 use native.Mathlib.Omega.{arith}
 use lib.Dec.{T, eqb, T-not, not-T}
-use lib.ListN.{length, replicate, set}
-use Rattle.laws.specs.Choice.{_and_, when}
+use lib.ListN.{set}
 use Rattle.laws.specs.Lists.{keep, sameList}
 use Rattle.laws.proofs.Choice.{when-cases}
 use Rattle.laws.proofs.Tests.{and-both, eqb-iff}
 use Rattle.laws.proofs.Lists.{in-keep, same-list}
-use Rattle.theory.specs.Table.{FREE, CURRENT, WITHDRAWN, UNEXPANDED, RulePlace, Table, freeRule, unexpanded, ruleAt, setAt, Reach}
-use Rattle.theory.specs.Expansion.{freed, collected, expand}
+use Rattle.theory.specs.Table.{CURRENT, WITHDRAWN, Table, unexpanded, ruleAt, setAt}
+use Rattle.theory.specs.Expansion.{collected, expand}
 use Rattle.theory.specs.Parse.{Outcome, outcome}
-use Rattle.theory.specs.Form.{InForm, inForm, Current}
+use Rattle.theory.specs.Form.{inForm, Current}
 use Rattle.theory.specs.Calls as calls
 use Rattle.theory.specs.Made.{Call, called, Rule, rule, CurrentRule, isThis, leaves, left, Made}
 use Rattle.theory.specs.Made.Call.{new, add, delete, collect, restart, parse}
