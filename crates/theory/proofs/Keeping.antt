@@ -1,16 +1,16 @@
 -- New makes a consistent table; Collect, Restart and every expansion of a reachable set keep it consistent. Assumes nothing.
-use mathlib.Core.Path.{_≡_, refl, sym, _∙_, ap, subst}
-use mathlib.Core.Logic.{_≢_, _⊎_, inl, inr, ⊎-elim}
-use mathlib.Core.List.{List, [], _∷_, map, List·Memᴰ as In, List·Memᴰ·not-nil}
-use Prim.Native.Nat.{ℕ, zero, suc, pred, _≤_, _<_}
+use mathlib.Core.Path.{_≡_, sym, _∙_, ap, subst}
+use mathlib.Core.Logic.{_≢_, ⊎-elim}
+use mathlib.Core.List.{List, [], map, List·Memᴰ as In, List·Memᴰ·not-nil}
+use Prim.Native.Nat.{ℕ, _≤_, _<_}
 use native.Mathlib.Decide.{ℕ-discrete}
 use native.Mathlib.Omega.{arith}
 use lib.Dec.{T}
-use lib.ListN.{length, getD, set, replicate}
+use lib.ListN.{length, getD, set}
 use Rattle.symbols.specs.Symbol.{nonterminal}
 use Rattle.theory.specs.Items.{Items, Closure, Expanded}
 use Rattle.theory.specs.Items.Closure.{kernel, added}
-use Rattle.theory.specs.Table.{FREE, UNEXPANDED, EXPANDED, RulePlace, Item, Table, freeRule, freeSet, unexpanded, ruleAt, setAt, item, grammar, automaton, Reach}
+use Rattle.theory.specs.Table.{UNEXPANDED, EXPANDED, RulePlace, Item, Table, unexpanded, ruleAt, setAt, item, grammar, automaton, Reach}
 use Rattle.theory.specs.Table.Reach.{along}
 use Rattle.theory.specs.Form.{InForm, InUse, Current}
 use Rattle.theory.specs.Expansion.{closure, moved, symbols, freed, collected, grown, hasRoom, expand}
@@ -19,7 +19,7 @@ use Rattle.theory.proofs.Items.{current-is, moved-dot, closure-current}
 use Rattle.theory.proofs.Kernels.{in-moved, symbol-range, moved-some}
 use Rattle.theory.proofs.Freed.{current-stays, used-stays}
 use Rattle.theory.proofs.FormReach.{reach-current}
-use Rattle.theory.proofs.FormNew.{new-in-form}
+use Rattle.theory.proofs.FormNew.{set-new, rule-new, new-in-form}
 use Rattle.theory.proofs.FormCollected.{collected-in-form}
 use Rattle.theory.proofs.FormRestarted as form
 use Rattle.theory.proofs.Formed.{ruled, ranged, goto-used, reach-used, reach-same, collected-or}
@@ -32,32 +32,17 @@ use Rattle.theory.proofs.Consistent.{Consistent}
 
 -- ---- New
 
-pub no-rule : (k r : ℕ) → ruleAt (replicate k freeRule) r ≡ freeRule
-no-rule zero r = refl
-no-rule (suc k) zero = refl
-no-rule (suc k) (suc r) = no-rule k r
-
-no-set : (k s : ℕ) → setAt (replicate k freeSet) s ≡ freeSet
-no-set zero s = refl
-no-set (suc k) zero = refl
-no-set (suc k) (suc s) = no-set k s
-
-new-set : (k s : ℕ) → (setAt (unexpanded [] ∷ replicate k freeSet) s ≡ unexpanded []) ⊎ (setAt (unexpanded [] ∷ replicate k freeSet) s ≡ freeSet)
-new-set k zero = inl refl
-new-set k (suc s) = inr (no-set k s)
-
 pub new-consistent : (s r : ℕ) → T (poolsInRange s r) → Consistent (newTable s r)
 new-consistent s r h = record {
   form = new-in-form s r h;
-  lefts = λ q d. absurd (d (ap (λ p. p .state) (no-rule r q)));
-  dots = λ v z i m. absurd (⊎-elim (λ e. List·Memᴰ·not-nil (subst (λ p. In i (p .kernel)) e m)) (λ e. List·Memᴰ·not-nil (subst (λ p. In i (p .kernel)) e m)) (new-set (pred s) v));
-  some = λ v z d. absurd (d (only-start v z));
-  fresh = λ v z. absurd (⊎-elim (λ e. omega (arith, ap (λ p. p .state) (sym e) ∙ z)) (λ e. omega (arith, ap (λ p. p .state) (sym e) ∙ z)) (new-set (pred s) v));
+  lefts = λ q d. absurd (d (ap (λ p. p .state) (rule-new s r q)));
+  dots = λ v z i m. absurd (List·Memᴰ·not-nil (subst (λ p. In i (p .kernel)) (set-new s r v z) m));
+  some = λ v z d. absurd (d (ap (λ p. p .state) (set-new s r v z)));
+  fresh = λ v e. elim (ℕ-discrete v 0) [
+    | yes z ↦ absurd (omega (arith, ap (λ v. setAt (newTable s r .sets) v .state) (sym z) ∙ e))
+    | no z ↦ absurd (omega (arith, ap (λ p. p .state) (sym (set-new s r v z)) ∙ e))
+  ];
 }
-  where
-    only-start : (v : ℕ) → v ≢ 0 → setAt (newTable s r .sets) v .state ≡ FREE
-    only-start zero z = absurd (z refl)
-    only-start (suc v) z = ap (λ p. p .state) (no-set (pred s) v)
 
 -- ---- closures of kernels that name current rules only, over rules of which the same are current
 

@@ -1,4 +1,5 @@
--- The theorems.
+-- What is proved of the definitions, from the small to the large.
+-- Items and symbols; the executable closure and moved kernels are the inductive ones; sets found or made; expansion is fresh.
 pub mod Symbols
 pub mod Items
 pub mod Closure
@@ -7,6 +8,7 @@ pub mod Sets
 pub mod Leading
 pub mod Expansion
 pub mod Transitions
+-- Reach and collection; the form as a test and as facts, and that New, Collect, Restart and every expansion keep it.
 pub mod Reach
 pub mod Freed
 pub mod Form
@@ -19,23 +21,26 @@ pub mod Carry
 pub mod Grown
 pub mod FormGrown
 pub mod Later
+-- The Room sentence.
+pub mod Counting
+pub mod Counted
+pub mod Room
+-- The steps of Parse.
+pub mod Derivation
+pub mod Exact
+pub mod Saturation
+pub mod Grounded
+pub mod Steps
+pub mod Checks
+-- The invariant of made tables; changes of the rules are exact; demand 3.
 pub mod Consistent
 pub mod Keeping
 pub mod Changed
 pub mod Changes
 pub mod ChangeExact
 pub mod Accepted
-pub mod Derivation
-pub mod Exact
-pub mod Counting
-pub mod Saturation
-pub mod Grounded
-pub mod Steps
-pub mod Checks
 pub mod History
 pub mod Rules
 pub mod AddExact
-pub mod Counted
-pub mod Room
 pub mod Generation
 pub mod Demand3

@@ -98,7 +98,7 @@ setInForm rs ss p =
     and sameList (symbolsOf p) (keep (λ x. someIn (eqb x) (symbolsOf p)) (upFrom 1 127))
     and allIn (λ a. ltb 0 (setAt ss (a .to) .state) and ltb 0 (a .to)) (p .transitions)
     and when only-current (allIn (λ r. eqb (ruleAt rs r .state) CURRENT) (p .reductions)
-        and allIn (λ a. namesCurrent rs (setAt ss (a .to) .kernel)) (p .transitions)) true
+    and allIn (λ a. namesCurrent rs (setAt ss (a .to) .kernel)) (p .transitions)) true
     and when (eqb (p .state) FREE) (isNil (p .kernel) and bare) true
     and when (eqb (p .state) UNEXPANDED) bare true
     and sameItems (p .kernel) (keep (hasItem (p .kernel)) (allItems (length rs)))
