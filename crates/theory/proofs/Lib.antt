@@ -18,6 +18,7 @@ pub mod FormNew
 pub mod FormCollected
 pub mod FormRestarted
 pub mod Carry
+pub mod Agreement
 pub mod Grown
 pub mod FormGrown
 pub mod Later

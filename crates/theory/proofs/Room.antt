@@ -28,7 +28,7 @@ use Rattle.theory.proofs.FormReach.{set-form}
 use Rattle.theory.proofs.FormCollected.{collected-in-form}
 use Rattle.theory.proofs.Formed.{ruled, ranged, start-items, reach-used, reach-same, collected-or}
 use Rattle.theory.proofs.Carry.{same-expansion}
-use Rattle.theory.proofs.Keeping.{collected-agree}
+use Rattle.theory.proofs.Agreement.{collected-agree}
 use Rattle.theory.proofs.Later.{expand-cases, collected-later, reach-later}
 use Rattle.theory.proofs.Counting.{no-longer, same-length}
 use Rattle.theory.proofs.Counted.{kept-and-not, places, distinct-keep, distinct-append, distinct-map}
