@@ -1,24 +1,21 @@
 -- The test for the form is the form: `inForm` passes exactly where `InForm` holds, clause by clause. Assumes nothing.
 use mathlib.Core.Path.{_≡_, refl, sym, ap, subst}
-use mathlib.Core.Logic.{_↔_, _≢_}
+use mathlib.Core.Logic.{_↔_}
 use mathlib.Core.Bool.{Bool, true, false, not}
 use mathlib.Core.List.{List, [], _∷_}
 use Prim.Native.Nat.{ℕ, _<_}
 use native.Mathlib.Decide.{ℕ-discrete, decLt}
 use native.Mathlib.Omega.{arith}
-use lib.Dec.{T, ltb, T-not, not-T}
+use lib.Dec.{T, T-not, not-T}
 use lib.ListN.{length, List·getD-eq-default}
 use Rattle.laws.specs.Choice.{when}
-use Rattle.laws.proofs.Tests.{tests, ltb-iff}
+use Rattle.laws.proofs.Tests.{tests}
 use Rattle.laws.proofs.Lists.{all-in, same-list}
-use Rattle.theory.specs.Table.{FREE, RulePlace, SetPlace, Table, freeRule, freeSet, ruleAt, setAt}
-use Rattle.theory.specs.Form.{Named, InUse, RuleInForm, SetInForm, InForm, isNil, ruleInForm, setInForm, inForm}
-use Rattle.theory.proofs.Kernels.{same-items}
+use Rattle.theory.specs.Table.{FREE, RulePlace, SetPlace, Table, freeSet, ruleAt, setAt}
+use Rattle.theory.specs.Form.{InUse, RuleInForm, SetInForm, InForm, isNil, ruleInForm, setInForm, inForm}
+use Rattle.theory.proofs.Items.{same-items, named-inside}
 
 -- ---- tests of this file's own shapes
-
-pub not-free : (n : ℕ) → T (ltb 0 n) ↔ (n ≢ 0)
-not-free n = (λ t. let h = ltb-iff 0 n .0 t in omega arith, λ d. ltb-iff 0 n .1 (omega arith))
 
 -- a test that is asked only where another passes
 where-passes : (b c : Bool) → T (when b c true) ↔ (T b → T c)
@@ -45,9 +42,6 @@ fails b = (T-not b, not-T b)
 ruleset clauses = (where-passes, one-of, is-nil, is-not, all-in, same-list, same-items)
 
 -- ---- rules
-
-pub named-inside : (rs : List RulePlace) (r : ℕ) → Named rs r → r < length rs
-named-inside rs r d = elim (decLt r (length rs)) [ yes h ↦ h | no h ↦ absurd (d (ap (λ p. p .state) (List·getD-eq-default rs freeRule {n = r} (omega arith)))) ]
 
 pub used-inside : (ss : List SetPlace) (s : ℕ) → InUse ss s → s < length ss
 used-inside ss s d = elim (decLt s (length ss)) [ yes h ↦ h | no h ↦ absurd (d (ap (λ p. p .state) (List·getD-eq-default ss freeSet {n = s} (omega arith)))) ]
