@@ -7,13 +7,14 @@ use Prim.Native.Nat.{ℕ, _<_}
 use native.Mathlib.Decide.{ℕ-discrete, decLt}
 use native.Mathlib.Omega.{arith}
 use lib.Dec.{T, T-not, not-T}
-use lib.ListN.{length, List·getD-eq-default}
+use lib.ListN.{length}
 use Rattle.laws.specs.Choice.{when}
 use Rattle.laws.proofs.Tests.{tests}
 use Rattle.laws.proofs.Lists.{all-in, same-list}
-use Rattle.theory.specs.Table.{FREE, RulePlace, SetPlace, Table, freeSet, ruleAt, setAt}
-use Rattle.theory.specs.Form.{InUse, RuleInForm, SetInForm, InForm, isNil, ruleInForm, setInForm, inForm}
+use Rattle.theory.specs.Table.{FREE, RulePlace, SetPlace, Table, ruleAt, setAt}
+use Rattle.theory.specs.Form.{RuleInForm, SetInForm, InForm, isNil, ruleInForm, setInForm, inForm}
 use Rattle.theory.proofs.Items.{same-items, named-inside}
+use Rattle.theory.proofs.Reach.{used-inside}
 
 -- ---- tests of this file's own shapes
 
@@ -42,9 +43,6 @@ fails b = (T-not b, not-T b)
 ruleset clauses = (where-passes, one-of, is-nil, is-not, all-in, same-list, same-items)
 
 -- ---- rules
-
-pub used-inside : (ss : List SetPlace) (s : ℕ) → InUse ss s → s < length ss
-used-inside ss s d = elim (decLt s (length ss)) [ yes h ↦ h | no h ↦ absurd (d (ap (λ p. p .state) (List·getD-eq-default ss freeSet {n = s} (omega arith)))) ]
 
 rule-in-form : (p : RulePlace) → T (ruleInForm p) ↔ RuleInForm p
 rule-in-form p = (to, from)

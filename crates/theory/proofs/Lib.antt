@@ -3,4 +3,5 @@ pub mod Symbols
 pub mod Items
 pub mod Closure
 pub mod Kernels
+pub mod Reach
 pub mod Form
