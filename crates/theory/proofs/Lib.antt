@@ -3,5 +3,8 @@ pub mod Symbols
 pub mod Items
 pub mod Closure
 pub mod Kernels
+pub mod Transitions
 pub mod Reach
+pub mod Freed
 pub mod Form
+pub mod FormReach

@@ -22,6 +22,7 @@ use Rattle.theory.specs.Table.Reach.{at-start, along}
 use Rattle.theory.specs.Expansion.{leadsTo, reachRound, reached, collected}
 use Rattle.theory.proofs.Symbols.{not-eqb}
 use Rattle.theory.proofs.Closure.{marked-inside}
+use Rattle.theory.proofs.Transitions.{goto-transition}
 
 -- a set in use stands in the table
 pub used-inside : (ss : List SetPlace) (s : ℕ) → setAt ss s .state ≢ FREE → s < length ss
@@ -50,15 +51,9 @@ module _ (t : Table) (start : setAt (t .sets) 0 .state ≢ FREE)
 
   goto-leads : (u x s : ℕ) → automaton t .Goto u x s → T (leadsTo (t .sets) u s)
   goto-leads u x s (e, d) =
-      and-both (not (eqb s 0)) (someIn (λ a. eqb (target (t .sets) u (a .on)) s) (setAt (t .sets) u .transitions)) .1 (
-        not-eqb s 0 .1 d,
-        ⊎-elim
-            (λ (m, q). let z = eqb-iff _ x .0 q in
-            some-in (λ a. eqb (target (t .sets) u (a .on)) s) (setAt (t .sets) u .transitions) .1
-            (firstIn (λ a. eqb (a .on) x) noTransition (setAt (t .sets) u .transitions), m, eqb-iff _ s .1 (ap (target (t .sets) u) z ∙ e)))
-            (λ (q, h). absurd (d (sym e ∙ ap (λ a. a .to) q)))
-            (first-in (λ a. eqb (a .on) x) noTransition (setAt (t .sets) u .transitions)),
-      )
+      let (a, m, q, z) = goto-transition t u x s (e, d) in
+      and-both (not (eqb s 0)) (someIn (λ a. eqb (target (t .sets) u (a .on)) s) (setAt (t .sets) u .transitions)) .1
+      (not-eqb s 0 .1 d, some-in (λ a. eqb (target (t .sets) u (a .on)) s) (setAt (t .sets) u .transitions) .1 (a, m, eqb-iff _ s .1 (ap (target (t .sets) u) q ∙ e)))
 
   Good : List Bool → Type 0
   Good a = (s : ℕ) → T (getD a s false) → Reach t s
