@@ -8,3 +8,6 @@ pub mod Reach
 pub mod Freed
 pub mod Form
 pub mod FormReach
+pub mod FormNew
+pub mod FormCollected
+pub mod FormRestarted

@@ -11,13 +11,13 @@ use lib.Dec.{T, eqb}
 use lib.ListN.{length, getD, List·getD-eq-default}
 use Rattle.laws.specs.Choice.{_and_, _or_, when}
 use Rattle.laws.specs.Loops.{anyBelow, tab}
-use Rattle.laws.specs.Lists.{someIn, firstIn, unmarked}
+use Rattle.laws.specs.Lists.{someIn, unmarked}
 use Rattle.laws.proofs.Choice.{when-cases}
 use Rattle.laws.proofs.Tests.{and-both, or-either, any-below, eqb-iff}
-use Rattle.laws.proofs.Lists.{some-in, first-in}
+use Rattle.laws.proofs.Lists.{some-in}
 use Rattle.laws.proofs.Tables.{length-tab, getD-tab}
 use Rattle.laws.proofs.Growth.{keeps, settled, unmarked-le, Below, grows}
-use Rattle.theory.specs.Table.{FREE, SetPlace, Table, freeSet, setAt, noTransition, target, automaton, Reach}
+use Rattle.theory.specs.Table.{FREE, SetPlace, Table, freeSet, setAt, target, automaton, Reach}
 use Rattle.theory.specs.Table.Reach.{at-start, along}
 use Rattle.theory.specs.Expansion.{leadsTo, reachRound, reached, collected}
 use Rattle.theory.proofs.Symbols.{not-eqb}
