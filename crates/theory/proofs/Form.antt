@@ -14,7 +14,7 @@ use Rattle.laws.proofs.Lists.{all-in, same-list}
 use Rattle.theory.specs.Table.{FREE, RulePlace, SetPlace, Table, ruleAt, setAt}
 use Rattle.theory.specs.Form.{RuleInForm, SetInForm, InForm, isNil, ruleInForm, setInForm, inForm}
 use Rattle.theory.proofs.Items.{same-items, named-inside}
-use Rattle.theory.proofs.Reach.{used-inside}
+use Rattle.theory.proofs.Sets.{used-inside}
 
 -- ---- tests of this file's own shapes
 

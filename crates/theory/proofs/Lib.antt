@@ -3,11 +3,15 @@ pub mod Symbols
 pub mod Items
 pub mod Closure
 pub mod Kernels
+pub mod Sets
+pub mod Leading
+pub mod Expansion
 pub mod Transitions
 pub mod Reach
 pub mod Freed
 pub mod Form
 pub mod FormReach
+pub mod Formed
 pub mod FormNew
 pub mod FormCollected
 pub mod FormRestarted

@@ -22,12 +22,8 @@ use Rattle.theory.specs.Table.Reach.{at-start, along}
 use Rattle.theory.specs.Expansion.{leadsTo, reachRound, reached, collected}
 use Rattle.theory.proofs.Symbols.{not-eqb}
 use Rattle.theory.proofs.Closure.{marked-inside}
+use Rattle.theory.proofs.Sets.{used-inside}
 use Rattle.theory.proofs.Transitions.{goto-transition}
-
--- a set in use stands in the table
-pub used-inside : (ss : List SetPlace) (s : ℕ) → setAt ss s .state ≢ FREE → s < length ss
-used-inside ss s d =
-    elim (decLt s (length ss)) [ yes h ↦ h | no h ↦ absurd (d (ap (λ p. p .state) (List·getD-eq-default ss freeSet {n = s} (omega arith)))) ]
 
 module _ (t : Table) (start : setAt (t .sets) 0 .state ≢ FREE)
     (targets : (u x : ℕ) → target (t .sets) u x ≢ 0 → setAt (t .sets) (target (t .sets) u x) .state ≢ FREE) where
