@@ -12,6 +12,7 @@ pub mod Freed
 pub mod Form
 pub mod FormReach
 pub mod Formed
+pub mod Grown
 pub mod FormNew
 pub mod FormCollected
 pub mod FormRestarted
