@@ -1,7 +1,7 @@
 -- Collection keeps the form on every table in form: reached kernels name current rules only, so freeing the withdrawn numbers frees
 -- nothing that a kept set names. Assumes nothing.
 use mathlib.Core.Path.{_≡_, sym, _∙_, ap, subst}
-use mathlib.Core.Logic.{_⊎_, ⊎-elim}
+use mathlib.Core.Logic.{⊎-elim}
 use mathlib.Core.Bool.{Bool, false}
 use mathlib.Core.List.{List, map, List·Memᴰ as In}
 use Prim.Native.Nat.{ℕ, _≤_}
@@ -18,9 +18,9 @@ use Rattle.theory.specs.Table.Reach.{at-start, along}
 use Rattle.theory.specs.Expansion.{freed, reached, collected}
 use Rattle.theory.specs.Form.{InUse, NamesCurrent, RuleInForm, SetInForm, InForm}
 use Rattle.theory.proofs.Items.{keep-cong}
-use Rattle.theory.proofs.Reach.{kind, reach-same, reach-used}
 use Rattle.theory.proofs.Freed.{freed-or, current-stays, used-stays, current-freed}
-use Rattle.theory.proofs.FormReach.{free-rule-in-form, free-in-form, set-form, rule-form, transition-goto, targets-used, reach-current}
+use Rattle.theory.proofs.FormReach.{free-rule-in-form, free-in-form, set-form, rule-form, transition-goto, reach-current}
+use Rattle.theory.proofs.Formed.{reach-used, reach-same, collected-or}
 
 -- ---- the rules
 
@@ -52,9 +52,6 @@ module _ (t : Table) (f : InForm t) where
   current-still : (k : List Item) → NamesCurrent (t .rules) k → NamesCurrent rs′ k
   current-still k c i m = current-freed (t .rules) (i .rule) .1 (c i m)
 
-  pub reach-stays : {s : ℕ} → Reach t s → setAt ss′ s ≡ setAt (t .sets) s
-  reach-stays = reach-same t (f .start-used) (targets-used t f)
-
   -- a reached set is still in form
   reached-form : (s : ℕ) → Reach t s → SetInForm rs′ ss′ (setAt (t .sets) s)
   reached-form s h = record {
@@ -64,9 +61,9 @@ module _ (t : Table) (f : InForm t) where
         (λ z. omega (arith, current-still _ c i m), subst (λ q. i .dot ≤ length (q .right)) (sym e) (p .items i m .1));
     reductions = λ r m z. omega (arith, current-freed (t .rules) r .1 (p .current-reductions c r m));
     one-target = p .one-target;
-    targets = λ a m. (λ z. reach-used t (f .start-used) (targets-used t f) (on a m) (ap (λ q. q .state) (sym (reach-stays (on a m))) ∙ z), p .targets a m .1);
+    targets = λ a m. (λ z. reach-used f (on a m) (ap (λ q. q .state) (sym (reach-same f (on a m))) ∙ z), p .targets a m .1);
     current-reductions = λ g r m. current-freed (t .rules) r .1 (p .current-reductions c r m);
-    current-targets = λ g a m. subst (λ q. NamesCurrent rs′ (q .kernel)) (sym (reach-stays (on a m))) (current-still _ (p .current-targets c a m));
+    current-targets = λ g a m. subst (λ q. NamesCurrent rs′ (q .kernel)) (sym (reach-same f (on a m))) (current-still _ (p .current-targets c a m));
     unused = p .unused;
     bare = p .bare;
     kernel-ascends = p .kernel-ascends ∙ ap (λ n. keep (hasItem (setAt (t .sets) s .kernel)) (allItems n)) (sym rules);
@@ -89,9 +86,9 @@ module _ (t : Table) (f : InForm t) where
     some-rules = omega (arith, rules, f .some-rules);
     few-rules = omega (arith, rules, f .few-rules);
     rules = λ r l. ⊎-elim (λ e. subst RuleInForm (sym e) (rule-form t f r)) (λ (e, z). subst RuleInForm (sym e) free-rule-in-form) (freed-or (t .rules) r);
-    start-used = λ z. f .start-used (ap (λ p. p .state) (sym (reach-stays at-start)) ∙ z);
-    start-kernel = ap (λ p. p .kernel) (reach-stays at-start) ∙ f .start-kernel ∙ start-freed (t .rules);
-    sets = λ s l. ⊎-elim (λ (h, e). subst (SetInForm rs′ ss′) (sym e) (reached-form s h)) (λ e. subst (SetInForm rs′ ss′) (sym e) (free-in-form rs′ ss′)) (kept s);
+    start-used = λ z. f .start-used (ap (λ p. p .state) (sym (reach-same f at-start)) ∙ z);
+    start-kernel = ap (λ p. p .kernel) (reach-same f at-start) ∙ f .start-kernel ∙ start-freed (t .rules);
+    sets = λ s l. ⊎-elim (λ (h, e). subst (SetInForm rs′ ss′) (sym e) (reached-form s h)) (λ e. subst (SetInForm rs′ ss′) (sym e) (free-in-form rs′ ss′)) (collected-or f s);
     no-two-rules = λ q r m n e g.
         let a = used-stays (t .rules) q m in
         let b = used-stays (t .rules) r n in
@@ -103,8 +100,5 @@ module _ (t : Table) (f : InForm t) where
         f .no-two-kernels s u (λ z. m (ap (λ p. p .state) a ∙ z)) (λ z. n (ap (λ p. p .state) b ∙ z)) (ap (λ p. p .kernel) (sym a) ∙ e ∙ ap (λ p. p .kernel) b);
   }
     where
-      kept : (s : ℕ) → (Reach t s × (setAt ss′ s ≡ setAt (t .sets) s)) ⊎ (setAt ss′ s ≡ freeSet)
-      kept = kind t (f .start-used) (targets-used t f)
-
       still : (s : ℕ) → InUse ss′ s → setAt ss′ s ≡ setAt (t .sets) s
-      still s m = ⊎-elim (λ (h, e). e) (λ e. absurd (m (ap (λ p. p .state) e))) (kept s)
+      still s m = ⊎-elim (λ (h, e). e) (λ e. absurd (m (ap (λ p. p .state) e))) (collected-or f s)

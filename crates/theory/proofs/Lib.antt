@@ -16,3 +16,4 @@ pub mod Grown
 pub mod FormNew
 pub mod FormCollected
 pub mod FormRestarted
+pub mod FormGrown
