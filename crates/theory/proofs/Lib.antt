@@ -12,7 +12,9 @@ pub mod Freed
 pub mod Form
 pub mod FormReach
 pub mod Formed
+pub mod Carry
 pub mod Grown
+pub mod Later
 pub mod FormNew
 pub mod FormCollected
 pub mod FormRestarted
