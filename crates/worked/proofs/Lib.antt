@@ -1,0 +1,2 @@
+-- What the checker computed.
+pub mod Worked

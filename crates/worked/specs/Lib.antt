@@ -1,1 +1,3 @@
-pub mod Worked
+-- 01's worked lines: scripts, and the table of cases.
+pub mod Script
+pub mod Cases
