@@ -1,2 +1,3 @@
 -- What the checker computed.
 pub mod Worked
+pub mod Shortcuts

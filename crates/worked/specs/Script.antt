@@ -9,7 +9,8 @@ use Rattle.laws.specs.Lists.{keep, upFrom}
 use Rattle.theory.specs.Table.{EXPANDED, Item, Transition, SetPlace, Table, setAt, inUse}
 use Rattle.theory.specs.Parse.{Outcome}
 use Rattle.theory.specs.Form.{inForm}
-use Rattle.theory.specs.Calls.{new, add, delete, collect, restart, parse, refused}
+use Rattle.theory.specs.Calls.{new, collect, restart, refused}
+use Rattle.theory.specs.Calls as calls
 
 pub data Command : Type 0 where
   N : (sets rules links : ℕ) → Command
@@ -65,30 +66,41 @@ renewed x s r l =
 
 -- "Other refusals print the number alone."
 abbrev pub done : State → Outcome → Bool → List ℕ → Done
-done x o good more =
-    record { state = record { table = o .table; links = x .links }; prints = says (o .answer ∷ when good more []) ∷ [] }
+done x o good more = record { state = record { table = o .table; links = x .links }; prints = says (o .answer ∷ when good more []) ∷ [] }
 
-abbrev pub does : State → Command → Done
-does x (N s r l) = renewed x s r l
+-- the calls that a command runs
+pub record Reader : Type 0 where
+  pub add : Table → ℕ → List ℕ → Outcome
+  pub delete : Table → ℕ → List ℕ → Outcome
+  pub parse : Table → ℕ → List ℕ → Outcome
+
+abbrev pub real : Reader
+real = record { add = calls.add; delete = calls.delete; parse = calls.parse }
+
+abbrev pub does : Reader → State → Command → Done
+does c x (N s r l) = renewed x s r l
 -- "prints the answer, and on 0 the rule number"
-does x (A y w) = let o = add (x .table) y w in done x o (eqb (o .answer) 0) (o .number ∷ [])
-does x (D y w) = let o = delete (x .table) y w in done x o (eqb (o .answer) 0) (o .number ∷ [])
+does c x (A y w) = let o = c .add (x .table) y w in done x o (eqb (o .answer) 0) (o .number ∷ [])
+does c x (D y w) = let o = c .delete (x .table) y w in done x o (eqb (o .answer) 0) (o .number ∷ [])
 -- "prints answer, links, sets in use, also on 20 and 21"
-does x (P line) =
-    let o = parse (x .table) (x .links) line in
+does c x (P line) =
+    let o = c .parse (x .table) (x .links) line in
     done x o (eqb (o .answer) 1 or eqb (o .answer) 2 or eqb (o .answer) 20 or eqb (o .answer) 21) (o .number ∷ inUse (o .table) ∷ [])
 -- "answer and sets in use"
-does x G = let o = collect (x .table) in done x o (eqb (o .answer) 0) (inUse (o .table) ∷ [])
-does x R = let o = restart (x .table) in done x o (eqb (o .answer) 0) (inUse (o .table) ∷ [])
-does x L = record { state = x; prints = listed (x .table) }
+does c x G = let o = collect (x .table) in done x o (eqb (o .answer) 0) (inUse (o .table) ∷ [])
+does c x R = let o = restart (x .table) in done x o (eqb (o .answer) 0) (inUse (o .table) ∷ [])
+does c x L = record { state = x; prints = listed (x .table) }
 
-abbrev pub printed : State → List Command → List Line
-printed x [] = []
-printed x (c ∷ cs) = let d = does x c in d .prints ++ printed (d .state) cs
+abbrev pub printed : Reader → State → List Command → List Line
+printed c x [] = []
+printed c x (y ∷ ys) = let d = does c x y in d .prints ++ printed c (d .state) ys
 
 -- "Before the first good N the table is all zero"
 abbrev pub zero : State
 zero = record { table = record { rules = []; sets = [] }; links = 0 }
 
+abbrev pub runBy : Reader → List Command → List Line
+runBy c script = printed c zero script
+
 abbrev pub run : List Command → List Line
-run cs = printed zero cs
+run script = runBy real script
