@@ -1,3 +1,4 @@
 -- What the checker computed.
 pub mod Worked
 pub mod Shortcuts
+pub mod Unmade

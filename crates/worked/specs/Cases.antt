@@ -2,14 +2,13 @@
 use mathlib.Core.List.{List, [], _∷_, _++_}
 use Prim.Native.Nat.{ℕ}
 use Rattle.theory.specs.Table.{Item, Transition, item}
-use Rattle.worked.specs.Script.{Command, Mark, Line}
+use Rattle.worked.specs.Script.{Command, Line}
 use Rattle.worked.specs.Script.Command.{N, A, D, P, G, L}
 use Rattle.worked.specs.Script.Mark.{e, u}
 use Rattle.worked.specs.Script.Line.{says, C, K, S}
 
 infix 90 _·_
 infix 90 _⇒_
-
 -- "rule.dot" and "symbol>target"
 abbrev pub _·_ : ℕ → ℕ → Item
 r · d = item r d

@@ -1,6 +1,6 @@
 -- "Shortcuts that go wrong": each of 01's five as a reader that takes it, all else being the model's, and a script on which it goes
 -- wrong. Assumes nothing.
-use mathlib.Core.Bool.{Bool, not}
+use mathlib.Core.Bool.{not}
 use mathlib.Core.List.{List, [], _∷_, _++_, map}
 use Prim.Native.Nat.{ℕ, zero, suc}
 use lib.Dec.{eqb, ltb, leb}
@@ -8,10 +8,10 @@ use lib.ListN.{length, set}
 use Rattle.laws.specs.Choice.{_and_, when}
 use Rattle.laws.specs.Lists.{someIn, firstIn, addNew, joinMap}
 use Rattle.symbols.specs.Symbol.{START, ruleAnswer}
-use Rattle.theory.specs.Table.{CURRENT, WITHDRAWN, EXPANDED, RulePlace, SetPlace, Table, unexpanded, ruleAt, setAt, startKernel}
+use Rattle.theory.specs.Table.{CURRENT, EXPANDED, RulePlace, SetPlace, Table, unexpanded, ruleAt, setAt, startKernel}
 use Rattle.theory.specs.Expansion.{after, collected, expand}
-use Rattle.theory.specs.Parse.{Link, sameLink, nodesAt, ends, linkTo, saturate, lowestUnexpanded, Settled, settled, settle, Outcome, outcome, shifts, accepting, turns, parsing}
-use Rattle.theory.specs.Calls.{checked, refused, touched, putRule, isRule, lowestRule, isThere, isFull, allTokens}
+use Rattle.theory.specs.Parse.{Link, sameLink, nodesAt, ends, linkTo, saturate, lowestUnexpanded, Settled, settled, settle, Outcome, outcome, shifts, accepting, turns}
+use Rattle.theory.specs.Calls.{checked, refused, putRule, lowestRule, isThere, isFull, allTokens}
 use Rattle.worked.specs.Script.{Command, Line, Reader, real}
 use Rattle.worked.specs.Script.Command.{N, A, D, P}
 use Rattle.worked.specs.Script.Line.{says, C, K, S}
@@ -152,16 +152,16 @@ shortcuts =
     -- 66→2 3 goes and 66→3 1 takes its number: the set after 2, which waits for a 3, is taken for the set after 3
     record {
       reader = takingWithdrawn;
-      script = N 8 5 16 ∷ (rules ++ (P (2 ∷ 3 ∷ []) ∷ D 66 (2 ∷ 3 ∷ []) ∷ A 66 (3 ∷ 1 ∷ []) ∷ P (3 ∷ 1 ∷ []) ∷ []));
-      right = 1 ∷ 4 ∷ 7 ∷ [];
-      wrong = 2 ∷ 1 ∷ 7 ∷ [];
+      script = N 4 2 8 ∷ A 64 (66 ∷ []) ∷ A 66 (2 ∷ 3 ∷ []) ∷ P (2 ∷ 3 ∷ []) ∷ D 66 (2 ∷ 3 ∷ []) ∷ A 66 (3 ∷ 1 ∷ []) ∷ P (3 ∷ 1 ∷ []) ∷ [];
+      right = 1 ∷ 3 ∷ 4 ∷ [];
+      wrong = 2 ∷ 1 ∷ 4 ∷ [];
     }
     -- set 0's kernel names 65; 66 stands in its closure
     ∷ record {
       reader = lookingAtKernels;
-      script = N 8 8 16 ∷ (rules ++ (P (1 ∷ 3 ∷ []) ∷ A 66 (3 ∷ []) ∷ P (3 ∷ []) ∷ []));
-      right = 1 ∷ 3 ∷ 8 ∷ [];
-      wrong = 2 ∷ 0 ∷ 7 ∷ [];
+      script = N 8 4 8 ∷ A 64 (65 ∷ []) ∷ A 65 (66 ∷ []) ∷ A 66 (1 ∷ []) ∷ P (1 ∷ []) ∷ A 66 (3 ∷ []) ∷ P (3 ∷ []) ∷ [];
+      right = 1 ∷ 3 ∷ 5 ∷ [];
+      wrong = 2 ∷ 0 ∷ 4 ∷ [];
     }
     -- E9, as first given
     ∷ record {
