@@ -93,19 +93,19 @@ cases =
     }
     -- E8 rules 64→65, 65→65, 65→1, line 1: accept, 2 links
     ∷ record {
-      script = N 8 8 16 ∷ A 64 (65 ∷ []) ∷ A 65 (65 ∷ []) ∷ A 65 (1 ∷ []) ∷ P (1 ∷ []) ∷ [];
+      script = N 8 4 16 ∷ A 64 (65 ∷ []) ∷ A 65 (65 ∷ []) ∷ A 65 (1 ∷ []) ∷ P (1 ∷ []) ∷ [];
       prints = good ∷ rule 0 ∷ rule 1 ∷ rule 2 ∷ says (1 ∷ 2 ∷ 3 ∷ []) ∷ [];
     }
     -- E9 rules 64→66, 66→1 66 65, 66→nothing, 65→nothing: line 1 1 accepted; so too with 66→65 66 1 as the second
     ∷ record {
-      script = N 8 8 16 ∷ A 64 (66 ∷ []) ∷ A 66 (1 ∷ 66 ∷ 65 ∷ []) ∷ A 66 [] ∷ A 65 [] ∷ P (1 ∷ 1 ∷ []) ∷ [];
+      script = N 8 4 16 ∷ A 64 (66 ∷ []) ∷ A 66 (1 ∷ 66 ∷ 65 ∷ []) ∷ A 66 [] ∷ A 65 [] ∷ P (1 ∷ 1 ∷ []) ∷ [];
       prints = good ∷ rule 0 ∷ rule 1 ∷ rule 2 ∷ rule 3 ∷ says (1 ∷ 10 ∷ 5 ∷ []) ∷ [];
     }
     ∷ record {
-      script = N 8 8 16 ∷ A 64 (66 ∷ []) ∷ A 66 (65 ∷ 66 ∷ 1 ∷ []) ∷ A 66 [] ∷ A 65 [] ∷ P (1 ∷ 1 ∷ []) ∷ [];
+      script = N 8 4 16 ∷ A 64 (66 ∷ []) ∷ A 66 (65 ∷ 66 ∷ 1 ∷ []) ∷ A 66 [] ∷ A 65 [] ∷ P (1 ∷ 1 ∷ []) ∷ [];
       prints = good ∷ rule 0 ∷ rule 1 ∷ rule 2 ∷ rule 3 ∷ says (1 ∷ 10 ∷ 5 ∷ []) ∷ [];
     }
     -- E10 64→nothing: empty line accepted, 0 links, 1 set. No rules: empty line rejected
-    ∷ record { script = N 8 8 16 ∷ A 64 [] ∷ P [] ∷ []; prints = good ∷ rule 0 ∷ says (1 ∷ 0 ∷ 1 ∷ []) ∷ [] }
-    ∷ record { script = N 8 8 16 ∷ P [] ∷ []; prints = good ∷ says (2 ∷ 0 ∷ 1 ∷ []) ∷ [] }
+    ∷ record { script = N 1 1 0 ∷ A 64 [] ∷ P [] ∷ []; prints = good ∷ rule 0 ∷ says (1 ∷ 0 ∷ 1 ∷ []) ∷ [] }
+    ∷ record { script = N 1 1 0 ∷ P [] ∷ []; prints = good ∷ says (2 ∷ 0 ∷ 1 ∷ []) ∷ [] }
     ∷ []

@@ -166,21 +166,21 @@ shortcuts =
     -- E9, as first given
     ∷ record {
       reader = reducingOnce;
-      script = N 8 8 16 ∷ A 64 (66 ∷ []) ∷ A 66 (1 ∷ 66 ∷ 65 ∷ []) ∷ A 66 [] ∷ A 65 [] ∷ P (1 ∷ 1 ∷ []) ∷ [];
+      script = N 8 4 16 ∷ A 64 (66 ∷ []) ∷ A 66 (1 ∷ 66 ∷ 65 ∷ []) ∷ A 66 [] ∷ A 65 [] ∷ P (1 ∷ 1 ∷ []) ∷ [];
       right = 1 ∷ 10 ∷ 5 ∷ [];
       wrong = 2 ∷ 9 ∷ 5 ∷ [];
     }
     -- the accept mark of set 0 stands only once set 0 is expanded
     ∷ record {
       reader = testingEarly;
-      script = N 8 8 16 ∷ A 64 [] ∷ P [] ∷ [];
+      script = N 1 1 0 ∷ A 64 [] ∷ P [] ∷ [];
       right = 1 ∷ 0 ∷ 1 ∷ [];
       wrong = 2 ∷ 0 ∷ 1 ∷ [];
     }
     -- E5 must find sets 1, 3 and 4 again
     ∷ record {
       reader = freeingAtOnce;
-      script = N 8 8 16 ∷ (rules ++ (P (1 ∷ 3 ∷ []) ∷ D 66 (2 ∷ 3 ∷ []) ∷ P (2 ∷ 3 ∷ []) ∷ []));
+      script = N 8 5 16 ∷ (rules ++ (P (1 ∷ 3 ∷ []) ∷ D 66 (2 ∷ 3 ∷ []) ∷ P (2 ∷ 3 ∷ []) ∷ []));
       right = 2 ∷ 0 ∷ 7 ∷ [];
       wrong = 2 ∷ 0 ∷ 4 ∷ [];
     }
