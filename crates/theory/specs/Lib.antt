@@ -11,3 +11,5 @@ pub mod Steps
 pub mod Form
 pub mod Calls
 pub mod Made
+pub mod Changes
+pub mod Room
