@@ -1,0 +1,3 @@
+pub mod Derivation
+pub mod Spans
+pub mod Verdict
