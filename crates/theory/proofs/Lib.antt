@@ -1,3 +1,6 @@
 pub mod Derivation
 pub mod Spans
 pub mod Verdict
+pub mod Exact
+pub mod Counting
+pub mod Saturation
