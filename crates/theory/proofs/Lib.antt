@@ -4,3 +4,4 @@ pub mod Verdict
 pub mod Exact
 pub mod Counting
 pub mod Saturation
+pub mod OneOutcome
