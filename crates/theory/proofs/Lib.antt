@@ -5,3 +5,4 @@ pub mod Exact
 pub mod Counting
 pub mod Saturation
 pub mod OneOutcome
+pub mod Steps

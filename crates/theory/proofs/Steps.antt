@@ -1,0 +1,294 @@
+-- `parsing` does the steps of specs/Steps.antt, on all tables of a kind that expansions keep: the turns are enough, since each turn
+-- but the last expands a set at the position that stays expanded. What every such expansion keeps, the steps keep. Assumes nothing.
+use mathlib.Core.Path.{_≡_, refl, sym, _∙_, ap, subst}
+use mathlib.Core.Logic.{_↔_, _≢_, _⊎_, inl, inr, ⊎-elim}
+use mathlib.Core.Bool.{Bool, true, false, true≢false}
+use mathlib.Core.List.{List, [], _∷_, List·Memᴰ as In, List·Memᴰ·head as at-head, List·Memᴰ·tail as in-tail, List·Memᴰ·not-nil, List·Memᴰ·cases-cons, Memᴰ·cast}
+use Prim.Native.Nat.{ℕ, zero, suc, _+_, _≤_, _<_, zero-le}
+use native.Mathlib.Nat.{le-refl}
+use native.Mathlib.Decide.{ℕ-discrete, decLt}
+use native.Mathlib.Omega.{arith}
+use lib.Dec.{T, eqb, ltb, ltb→lt, lt→ltb}
+use lib.ListN.{length, getD, List·getD-eq-default}
+use Rattle.laws.specs.Choice.{_and_, when}
+use Rattle.laws.specs.Lists.{someIn, firstIn, upFrom, addNew, Distinct}
+use Rattle.laws.specs.Lists.Distinct.{none, one-more}
+use Rattle.laws.proofs.Choice.{when-cases}
+use Rattle.laws.proofs.Tests.{and-both, eqb-iff}
+use Rattle.laws.proofs.Lists.{some-in, first-in, in-up, in-add, distinct-add, add-length, add-same}
+use Rattle.theory.specs.Table.{UNEXPANDED, EXPANDED, Table, SetPlace, freeSet, ruleAt, setAt, target, automaton, Reach}
+use Rattle.theory.specs.Table.Reach.{at-start, along}
+use Rattle.theory.specs.Expansion.{expand}
+use Rattle.theory.specs.Parse.{Link, link, sameLink, nodesAt, saturate, lowestUnexpanded, Settled, settled, settle, Outcome, outcome, shifts, accepting, turns, parsing}
+use Rattle.theory.specs.Steps.{Linked, Noded, Path, Saturated, Lowest, Ready, Shifted, Steps}
+use Rattle.theory.specs.Steps.Linked.{given, reduced}
+use Rattle.theory.specs.Steps.Noded.{root, source}
+use Rattle.theory.specs.Steps.Path.{here, down}
+use Rattle.theory.specs.Steps.Steps.{no-links, no-sets, expands, accepts, rejects, stuck, shift-full, shifts as shifts-on}
+use Rattle.theory.proofs.Counting.{no-longer}
+use Rattle.theory.proofs.Exact.{same-link, NodeIn, in-nodesAt, in-shifts}
+use Rattle.theory.proofs.Exact.NodeIn.{root-in, source-in}
+use Rattle.theory.proofs.Saturation.{saturate-full, saturate-whole}
+
+-- ---- what holds of the links at a position: no link twice, none from a later position, and all sets are reached
+
+pub record Grounded (t : Table) (p : ℕ) (ls : List Link) : Type 0 where
+  pub once : Distinct ls
+  pub low : (l : Link) → In l ls → l .i ≤ p
+  pub above : (l : Link) → In l ls → Reach t (l .s)
+  pub under : (l : Link) → In l ls → Reach t (l .t)
+
+pub grounded : (t : Table) → Grounded t 0 []
+grounded t = record {
+  once = none;
+  low = λ l n. absurd (List·Memᴰ·not-nil n);
+  above = λ l n. absurd (List·Memᴰ·not-nil n);
+  under = λ l n. absurd (List·Memᴰ·not-nil n);
+}
+
+pub node-reach : {t : Table} {p i u : ℕ} {ls : List Link} → Grounded t p ls → NodeIn ls i u → Reach t u
+node-reach 𝓖 root-in = at-start
+node-reach 𝓖 (source-in n) = 𝓖 .above _ n
+
+module _ {t : Table} {p : ℕ} {ls : List Link} (𝓖 : Grounded t p ls) where
+  mutual
+    linked-reach : {l : Link} → Linked t ls p l → Reach t (l .s) × Reach t (l .t)
+    linked-reach (given n) = (𝓖 .above _ n, 𝓖 .under _ n)
+    linked-reach (reduced r n d q g e) =
+        let h = path-reach q (noded-reach n) in
+        subst (λ l. Reach t (l .s) × Reach t (l .t)) e (along (ruleAt (t .rules) r .left) h g, h)
+
+    noded-reach : {u : ℕ} → Noded t ls p u → Reach t u
+    noded-reach (root e) = at-start
+    noded-reach (source l) = linked-reach l .0
+
+    path-reach : {k i u j v : ℕ} → Path t ls p k i u j v → Reach t u → Reach t v
+    path-reach here h = h
+    path-reach (down l q) h = path-reach q (linked-reach l .1)
+
+  linked-low : {l : Link} → Linked t ls p l → l .i ≤ p
+  linked-low (given n) = 𝓖 .low _ n
+  linked-low (reduced r n d q g e) = omega (arith, ap (λ l. l .i) e)
+
+  pub saturated-grounded : {m : List Link} → Saturated t p ls m → Grounded t p m
+  saturated-grounded s = record {
+    once = s .once;
+    low = λ l n. linked-low (s .all l .0 n);
+    above = λ l n. linked-reach (s .all l .0 n) .0;
+    under = λ l n. linked-reach (s .all l .0 n) .1;
+  }
+
+  pub shifted-grounded : {x : ℕ} {n : List Link} → Shifted t p x ls n → Grounded t (suc p) n
+  shifted-grounded {x} s = record {
+    once = s .once;
+    low = λ l k. ⊎-elim (λ o. let h = 𝓖 .low l o in omega arith) (λ (u, v, o, g, e). omega (arith, ap (λ l. l .i) e)) (s .all l .0 k);
+    above = λ l k. ⊎-elim (𝓖 .above l) (λ (u, v, o, g, e). subst (λ l. Reach t (l .s)) (sym e) (along x (reached o) g)) (s .all l .0 k);
+    under = λ l k. ⊎-elim (𝓖 .under l) (λ (u, v, o, g, e). subst (λ l. Reach t (l .t)) (sym e) (reached o)) (s .all l .0 k);
+  }
+    where
+      reached : {u : ℕ} → In u (nodesAt ls p) → Reach t u
+      reached o = node-reach 𝓖 (in-nodesAt ls p .0 o)
+
+-- ---- tables of a kind that expansions keep
+
+-- what an expansion of u that was done leaves of what is reached
+pub record Grows (t : Table) (u : ℕ) (t′ : Table) : Type 0 where
+  pub size : length (t′ .sets) ≡ length (t .sets)
+  pub reach : (s : ℕ) → Reach t s → Reach t′ s
+  pub stays : (s : ℕ) → Reach t s → setAt (t .sets) s .state ≡ EXPANDED → setAt (t′ .sets) s .state ≡ EXPANDED
+  pub filled : setAt (t′ .sets) u .state ≡ EXPANDED
+
+pub record Steady (P : Table → Type 0) : Type 0 where
+  pub keeps : (t : Table) (u : ℕ) → P t → Reach t u → setAt (t .sets) u .state ≡ UNEXPANDED → P (expand t u .table)
+  pub grows : (t : Table) (u : ℕ) → P t → Reach t u → setAt (t .sets) u .state ≡ UNEXPANDED → expand t u .done ≡ true → Grows t u (expand t u .table)
+
+grown-grounded : {t t′ : Table} {u p : ℕ} {m : List Link} → Grows t u t′ → Grounded t p m → Grounded t′ p m
+grown-grounded g 𝓖 = record { once = 𝓖 .once; low = 𝓖 .low; above = λ l n. g .reach (l .s) (𝓖 .above l n); under = λ l n. g .reach (l .t) (𝓖 .under l n) }
+
+-- ---- the lowest-numbered unexpanded set of a node here
+
+-- nothing before the first that passes does
+before-first : (f : ℕ → Bool) (d i n y : ℕ) → i ≤ y → y < i + n → y < firstIn f d (upFrom i n) → T (f y) → ⊥
+before-first f d i zero y a b = λ h q. omega arith
+before-first f d i (suc n) y a b =
+    when-cases (λ (k : ℕ). y < k → T (f y) → ⊥) (f i) (λ e h q. omega arith)
+    (λ e h q. elim (ℕ-discrete y i) [
+      | yes z ↦ subst T (ap f z ∙ e) q
+      | no z ↦ before-first f d (suc i) n y (omega arith) (omega arith) h q
+    ])
+
+state-inside : (ss : List SetPlace) (s n : ℕ) → setAt ss s .state ≡ suc n → s < length ss
+state-inside ss s n e = elim (decLt s (length ss)) [
+  | yes h ↦ h
+  | no h ↦ absurd (let z = ap (λ p. p .state) (List·getD-eq-default ss freeSet {n = s} (omega arith)) in omega arith)
+]
+
+module _ (t : Table) (p : ℕ) (m : List Link) where
+  abbrev u : ℕ
+  u = lowestUnexpanded (t .sets) m p
+
+  test : ℕ → Bool
+  test s = eqb (setAt (t .sets) s .state) UNEXPANDED and someIn (eqb s) (nodesAt m p)
+
+  tested : (s : ℕ) → T (test s) ↔ ((setAt (t .sets) s .state ≡ UNEXPANDED) × In s (nodesAt m p))
+  unfolding test
+  tested s = (
+    λ b. let (a, c) = and-both (eqb (setAt (t .sets) s .state) UNEXPANDED) (someIn (eqb s) (nodesAt m p)) .0 b in
+        let (x, k, e) = some-in (eqb s) (nodesAt m p) .0 c in (eqb-iff _ _ .0 a, Memᴰ·cast (eqb-iff _ _ .0 e) k),
+    λ (e, k). and-both (eqb (setAt (t .sets) s .state) UNEXPANDED) (someIn (eqb s) (nodesAt m p)) .1
+        (eqb-iff _ _ .1 e, some-in (eqb s) (nodesAt m p) .1 (s, k, eqb-iff s s .1 refl)),
+  )
+
+  lowest : u < length (t .sets) → Lowest t p m u
+  unfolding test
+  lowest h = ⊎-elim
+      (λ (n, q). let (e, k) = tested u .0 q in record {
+        here = k;
+        unexpanded = e;
+        least = λ v l w z. before-first test (length (t .sets)) 0 (length (t .sets)) v zero-le (omega arith) l (tested v .1 (z, w));
+      })
+      (λ (e, k). absurd (omega arith))
+      (first-in test (length (t .sets)) (upFrom 0 (length (t .sets))))
+
+  none-left : (u < length (t .sets) → ⊥) → (v : ℕ) → In v (nodesAt m p) → setAt (t .sets) v .state ≢ UNEXPANDED
+  unfolding test
+  none-left h v w z = ⊎-elim
+      (λ (n, q). h (let k = in-up 0 (length (t .sets)) .0 n .1 in omega arith))
+      (λ (e, k). k v (in-up 0 (length (t .sets)) .1 (zero-le, (let i = state-inside (t .sets) v 0 z in omega arith))) (tested v .1 (z, w)))
+      (first-in test (length (t .sets)) (upFrom 0 (length (t .sets))))
+
+-- ---- a position settled
+
+-- the sets expanded here so far
+record Expansions (t : Table) (done : List ℕ) : Type 0 where
+  once : Distinct done
+  reached : (s : ℕ) → In s done → Reach t s
+  expanded : (s : ℕ) → In s done → setAt (t .sets) s .state ≡ EXPANDED
+
+few : {t : Table} {done : List ℕ} → Expansions t done → length done ≤ length (t .sets)
+few {t} {done} 𝓓 = let h = no-longer (𝓓 .once) (upFrom 0 (length (t .sets)))
+    (λ s n. in-up 0 (length (t .sets)) .1 (zero-le, (let i = state-inside (t .sets) s 1 (𝓓 .expanded s n) in omega arith))) in
+    omega (arith, up-length 0 (length (t .sets)))
+  where
+    up-length : (i n : ℕ) → length (upFrom i n) ≡ n
+    up-length i zero = refl
+    up-length i (suc n) = ap suc (up-length (suc i) n)
+
+one-expansion : {t t′ : Table} {u : ℕ} {done : List ℕ} → Reach t u → setAt (t .sets) u .state ≡ UNEXPANDED → Grows t u t′ → Expansions t done → Expansions t′ (u ∷ done)
+one-expansion {t} {t′} {u} h e g 𝓓 = record {
+  once = one-more (λ n. let z = 𝓓 .expanded u n in omega arith) (𝓓 .once);
+  reached = λ s n. ⊎-elim (λ q. g .reach s (subst (Reach t) (sym q) h)) (λ k. g .reach s (𝓓 .reached s k)) (List·Memᴰ·cases-cons n);
+  expanded = λ s n. ⊎-elim (λ q. subst (λ s. setAt (t′ .sets) s .state ≡ EXPANDED) (sym q) (g .filled)) (λ k. g .stays s (𝓓 .reached s k) (𝓓 .expanded s k)) (List·Memᴰ·cases-cons n);
+}
+
+module _ (P : Table → Type 0) (𝓢 : Steady P) (pool p : ℕ) (line : List ℕ) (finish : Settled → Outcome)
+    (refuse : (a : ℕ) (t : Table) (m : List Link) → a ≢ 0 → outcome a 0 t ≡ finish (settled a t m))
+    (go-on : (t : Table) (ls m : List Link) → P t → Grounded t p m → Ready pool t p ls m → Steps pool t p ls line (finish (settled 0 t m))) where
+  settle-steps : (k : ℕ) (t : Table) (ls : List Link) (done : List ℕ) → P t → Grounded t p ls → Expansions t done → length (t .sets) < k + length done
+      → Steps pool t p ls line (finish (settle k pool t p ls))
+  settle-steps zero t ls done 𝓟 𝓖 𝓓 f = absurd (omega (arith, few 𝓓))
+  settle-steps (suc k) t ls done 𝓟 𝓖 𝓓 f =
+      when-cases Goes (ltb pool (length m))
+      (λ y. let (n, s, h) = saturate-full t p ls pool (𝓖 .once) (ltb→lt pool (length m) (subst T (sym y) tt)) in
+      no-links s h (refuse 21 t m (λ z. omega arith)))
+      (λ y. in-pool (λ t′ 𝓟 𝓖 done 𝓓 f. settle-steps k t′ m done 𝓟 𝓖 𝓓 f)
+      (elim (decLt pool (length m)) [ yes h ↦ absurd (subst T y (lt→ltb pool (length m) h)) | no h ↦ omega arith ]))
+    where
+      Goes : Settled → Type 0
+      Goes e = Steps pool t p ls line (finish e)
+
+      m : List Link
+      m = saturate (suc pool) pool t p ls
+
+      v : ℕ
+      v = lowestUnexpanded (t .sets) m p
+
+      expanding : Settled
+      expanding = when (expand t v .done) (settle k pool (expand t v .table) p m) (settled 20 (expand t v .table) m)
+
+      in-pool : ((t′ : Table) → P t′ → Grounded t′ p m → (done : List ℕ) → Expansions t′ done → length (t′ .sets) < k + length done → Steps pool t′ p m line (finish (settle k pool t′ p m)))
+          → length m ≤ pool → Steps pool t p ls line (finish (when (ltb v (length (t .sets))) expanding (settled 0 t m)))
+      in-pool again h =
+          when-cases Goes (ltb v (length (t .sets)))
+          (λ y. let w = lowest t p m (ltb→lt v (length (t .sets)) (subst T (sym y) tt)) in
+          let r = node-reach 𝓖′ (in-nodesAt m p .0 (w .here)) in
+          when-cases Goes (expand t v .done)
+          (λ d. let g = 𝓢 .grows t v 𝓟 r (w .unexpanded) d in
+          expands s h w d (again (expand t v .table) (𝓢 .keeps t v 𝓟 r (w .unexpanded)) (grown-grounded g 𝓖′) (v ∷ done) (one-expansion r (w .unexpanded) g 𝓓) (omega (arith, g .size))))
+          (λ d. no-sets s h w d (refuse 20 (expand t v .table) m (λ z. omega arith))))
+          (λ y. go-on t ls m 𝓟 𝓖′ (record { saturated = s; in-pool = h; none-left = none-left t p m (λ l. subst T y (lt→ltb v (length (t .sets)) l)) }))
+        where
+          s : Saturated t p ls m
+          s = saturate-whole t p ls pool (𝓖 .once) h
+
+          𝓖′ : Grounded t p m
+          𝓖′ = saturated-grounded 𝓖 s
+
+-- ---- the steps from a position to their outcome
+
+module _ (P : Table → Type 0) (𝓢 : Steady P) (pool : ℕ) where
+  -- at the end of the line
+  ended : (t : Table) (p : ℕ) (ls m : List Link) → Ready pool t p ls m → Steps pool t p ls [] (outcome (when (accepting t m p) 1 2) (length m) t)
+  ended t p ls m r =
+      when-cases (λ a. Steps pool t p ls [] (outcome a (length m) t)) (accepting t m p)
+      (λ e. let (u, n, a) = some-in (λ u. setAt (t .sets) u .accepts) (nodesAt m p) .0 (subst T (sym e) tt) in accepts r n a refl)
+      (λ e. rejects r (λ u n a. subst T e (some-in (λ u. setAt (t .sets) u .accepts) (nodesAt m p) .1 (u, n, a))) refl)
+
+  -- before it
+  module _ (t : Table) (p x : ℕ) (ls m : List Link) (𝓖 : Grounded t p m) (r : Ready pool t p ls m) where
+    n : List Link
+    n = addNew sameLink m (shifts t m p x)
+
+    shifted : Shifted t p x m n
+    unfolding n
+    shifted = record {
+      once = distinct-add sameLink same-link m (shifts t m p x) (𝓖 .once);
+      all = λ l. (
+        λ k. ⊎-elim inl (λ o. let (u, s, a, g, e) = in-shifts t m p x .0 o in inr (u, s, in-nodesAt m p .1 a, g, e)) (in-add sameLink same-link m (shifts t m p x) .0 k),
+        λ k. in-add sameLink same-link m (shifts t m p x) .1 (⊎-elim inl (λ (u, s, a, g, e). inr (in-shifts t m p x .1 (u, s, in-nodesAt m p .0 a, g, e))) k),
+      );
+    }
+
+    -- a link to the next position is new
+    none-new : length n ≡ length m → (u : ℕ) → In u (nodesAt m p) → target (t .sets) u x ≡ 0
+    unfolding n
+    none-new e u a = elim (ℕ-discrete (target (t .sets) u x) 0) [
+      | yes z ↦ z
+      | no d ↦
+          let l = link (suc p) (target (t .sets) u x) p u in
+          let k : In l m = subst (In l) (add-same sameLink m (shifts t m p x) e) (shifted .all l .1 (inr (u, target (t .sets) u x, a, (refl, d), refl))) in
+          absurd (let h = 𝓖 .low l k in omega arith)
+    ]
+
+    moved : (w : List ℕ) (on : Outcome) → (Grounded t (suc p) n → Steps pool t (suc p) n w on)
+        → Steps pool t p ls (x ∷ w) (when (eqb (length n) (length m)) (outcome 2 (length n) t) (when (ltb pool (length n)) (outcome 21 0 t) on))
+    unfolding n
+    moved w on next =
+        when-cases (Steps pool t p ls (x ∷ w)) (eqb (length n) (length m))
+        (λ e. let k = eqb-iff (length n) (length m) .0 (subst T (sym e) tt) in stuck r (none-new k) (ap (λ k. outcome 2 k t) (sym k)))
+        (λ e. let d : length n ≢ length m = λ q. subst T e (eqb-iff (length n) (length m) .1 q) in
+        let g : length m < length n = omega (arith, add-length sameLink m (shifts t m p x)) in
+        when-cases (Steps pool t p ls (x ∷ w)) (ltb pool (length n))
+        (λ y. shift-full r shifted g (ltb→lt pool (length n) (subst T (sym y) tt)) refl)
+        (λ y. shifts-on r shifted g (elim (decLt pool (length n)) [ yes h ↦ absurd (subst T y (lt→ltb pool (length n) h)) | no h ↦ omega arith ])
+        (next (shifted-grounded 𝓖 shifted))))
+
+  no-expansions : (t : Table) → Expansions t []
+  no-expansions t = record { once = none; reached = λ s n. absurd (List·Memᴰ·not-nil n); expanded = λ s n. absurd (List·Memᴰ·not-nil n) }
+
+  refused : (a : ℕ) (t : Table) (o : Outcome) → a ≢ 0 → outcome a 0 t ≡ when (eqb a 0) o (outcome a 0 t)
+  refused a t o d = when-cases (λ o. outcome a 0 t ≡ o) (eqb a 0) (λ e. absurd (d (eqb-iff a 0 .0 (subst T (sym e) tt)))) (λ e. refl)
+
+  -- `parsing` does the steps
+  pub parsing-does : (line : List ℕ) (t : Table) (p : ℕ) (ls : List Link) → P t → Grounded t p ls → Steps pool t p ls line (parsing pool t p ls line)
+  unfolding n when
+  parsing-does [] t p ls 𝓟 𝓖 =
+      settle-steps P 𝓢 pool p [] (λ e. when (eqb (e .answer) 0) (outcome (when (accepting (e .table) (e .links) p) 1 2) (length (e .links)) (e .table)) (outcome (e .answer) 0 (e .table)))
+      (λ a t m d. refused a t _ d) (λ t ls m 𝓟 𝓖 r. ended t p ls m r)
+      (turns t) t ls [] 𝓟 𝓖 (no-expansions t) (omega arith)
+  parsing-does (x ∷ w) t p ls 𝓟 𝓖 =
+      settle-steps P 𝓢 pool p (x ∷ w) (λ e. when (eqb (e .answer) 0) (let m = addNew sameLink (e .links) (shifts (e .table) (e .links) p x) in
+      when (eqb (length m) (length (e .links))) (outcome 2 (length m) (e .table)) (when (ltb pool (length m)) (outcome 21 0 (e .table)) (parsing pool (e .table) (suc p) m w))) (outcome (e .answer) 0 (e .table)))
+      (λ a t m d. refused a t _ d)
+      (λ t ls m 𝓟 𝓖 r. moved t p x ls m 𝓖 r w _ (λ 𝓖′. parsing-does w t (suc p) (addNew sameLink m (shifts t m p x)) 𝓟 𝓖′))
+      (turns t) t ls [] 𝓟 𝓖 (no-expansions t) (omega arith)
