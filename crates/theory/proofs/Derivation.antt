@@ -88,3 +88,15 @@ module _ {G : Grammar} where
 
   pub derives-forest : {f w : List ℕ} → Tokens w → Derives G f w ↔ Forest G f w
   derives-forest h = (forest-of h, derives-all)
+
+-- ---- grammars with the same current rules derive the same
+
+pub same-current : {G H : Grammar} → ((r : ℕ) → T (G .current r) → (q : ℕ) × T (H .current q) × (H .left q ≡ G .left r) × (H .right q ≡ G .right r))
+    → {f g : List ℕ} → Derives G f g → Derives H f g
+same-current k none = none
+same-current {G} {H} k (step s d) = step (rewritten s) (same-current k d)
+  where
+    rewritten : {f g : List ℕ} → Rewrites G f g → Rewrites H f g
+    rewritten (rewrite before after r c p e) =
+        let (q, a, l, w) = k r c in
+        rewrite before after q a (ap (λ x. before ++ (x ∷ after)) l ∙ p) (ap (λ x. before ++ (x ++ after)) w ∙ e)

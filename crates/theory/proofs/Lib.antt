@@ -9,10 +9,15 @@ pub mod Expansion
 pub mod Transitions
 pub mod Reach
 pub mod Freed
+pub mod Form
 pub mod FormReach
+pub mod FormNew
+pub mod FormCollected
+pub mod FormRestarted
 pub mod Formed
 pub mod Carry
 pub mod Grown
+pub mod Later
 pub mod Derivation
 pub mod Spans
 pub mod Verdict
@@ -21,3 +26,5 @@ pub mod Counting
 pub mod Saturation
 pub mod OneOutcome
 pub mod Steps
+pub mod LaterLinks
+pub mod Positions

@@ -86,11 +86,11 @@ module _ (t : Table) (pool p : ℕ) where
 module _ (t : Table) (p : ℕ) (ls : List Link) where
   -- only links of the closure are made
   module _ (m : List Link) (f : (l : Link) → In l m → Linked t ls p l) where
-    noded : {i u : ℕ} → NodeIn m i u → i ≡ p → Noded t ls p u
+    pub noded : {i u : ℕ} → NodeIn m i u → i ≡ p → Noded t ls p u
     noded root-in e = root (sym e)
     noded (source-in {s = s} {j = j} {t = v} n) e = source (subst (λ i. Linked t ls p (link i s j v)) e (f _ n))
 
-    path : {k i u j v : ℕ} → TrailIn m k i u j v → Path t ls p k i u j v
+    pub path : {k i u j v : ℕ} → TrailIn m k i u j v → Path t ls p k i u j v
     path here-in = here
     path (down-in n q) = down (f _ n) (path q)
 

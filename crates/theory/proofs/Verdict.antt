@@ -6,11 +6,10 @@ use mathlib.Core.List.{List, [], _∷_}
 use Prim.Native.Nat.{ℕ, zero, suc, _+_, _≤_, _<_, zero-le}
 use native.Mathlib.Nat.{add-zero}
 use native.Mathlib.Omega.{arith}
-use lib.Dec.{T, leb}
+use lib.Dec.{T}
 use lib.ListN.{length, getD, drop, length-drop}
 use lib.Seq.{drop-cons, drop-length}
 use Rattle.symbols.specs.Symbol.{START, terminal, nonterminal}
-use Rattle.laws.proofs.Tests.{and-both, leb-iff}
 use Rattle.theory.specs.Derivation.{Grammar, Derives}
 use Rattle.theory.specs.Items.{Next, Items, Closure, Moved, Automaton, Expanded, StartItem}
 use Rattle.theory.specs.Items.Closure.{kernel, added}
@@ -19,6 +18,8 @@ use Rattle.theory.specs.Graph.{Node, Link, Trail}
 use Rattle.theory.specs.Graph.Node.{root, source}
 use Rattle.theory.specs.Graph.Link.{shift, reduce}
 use Rattle.theory.specs.Graph.Trail.{here, down}
+use Rattle.theory.proofs.Items.{from-kernel, moved-back, moved-dot}
+use Rattle.theory.proofs.Symbols.{is-terminal}
 use Rattle.theory.proofs.Derivation.{Tokens, derives-tree}
 use Rattle.theory.proofs.Spans.{Span, Spans, whole-tree, whole-spans}
 use Rattle.theory.proofs.Spans.Span.{token, reduced}
@@ -29,18 +30,6 @@ pub record Started (G : Grammar) (A : Automaton) : Type 0 where
   pub start : {r d : ℕ} → A .Kernel 0 r d ↔ StartItem G r d
   pub apart : {r d x : ℕ} → Next G r d x → x ≢ START
   pub lefts : (r : ℕ) → T (G .current r) → T (nonterminal (G .left r))
-
--- ---- items
-
--- an item with the dot past the first place comes from the kernel
-from-kernel : {G : Grammar} {K : Items} {r d : ℕ} → Closure G K r (suc d) → K r (suc d)
-from-kernel (kernel k) = k
-
-moved-back : {G : Grammar} {K : Items} {x r d : ℕ} → Moved G K x r (suc d) → Closure G K r d × Next G r d x
-moved-back (moved c n) = (c, n)
-
-moved-not-zero : {G : Grammar} {K : Items} {x r d : ℕ} → Moved G K x r d → d ≡ 0 → ⊥
-moved-not-zero (moved {d = d} c n) e = omega arith
 
 -- ---- the graph of any automaton
 
@@ -80,7 +69,7 @@ module _ {G : Grammar} {A : Automaton} {line : List ℕ}
   current-at : {j t r : ℕ} → Node G A line j t → Closure G (A .Kernel t) r zero → T (G .current r)
   current-at n (added c x nt cur l) = cur
   current-at root (kernel k) = 𝓢 .start .0 k .current
-  current-at (source l) (kernel k) = absurd (moved-not-zero (before l (into l .1) k) refl)
+  current-at (source l) (kernel k) = absurd (let h = moved-dot (before l (into l .1) k) in omega arith)
 
   -- the right side after the dot
   rest : {r d x : ℕ} → Next G r d x → drop d (G .right r) ≡ x ∷ drop (suc d) (G .right r)
@@ -108,7 +97,7 @@ module _ {G : Grammar} {A : Automaton} {line : List ℕ}
   pub accept-sound : {i u r e : ℕ} → Node G A line i u → (d : ℕ) → Closure G (A .Kernel u) r d → G .left r ≡ START
       → Spans G line (drop d (G .right r)) i e → T (G .current r) × Spans G line (G .right r) 0 e
   accept-sound root zero cl st ss = (current-at root cl, ss)
-  accept-sound (source l) zero (kernel k) st ss = absurd (moved-not-zero (before l (into l .1) k) refl)
+  accept-sound (source l) zero (kernel k) st ss = absurd (let h = moved-dot (before l (into l .1) k) in omega arith)
   accept-sound (source l) zero (added c n nt cur e) st ss = absurd (𝓢 .apart n (sym e ∙ st))
   accept-sound root (suc d) cl st ss = absurd (let z = 𝓢 .start .0 (from-kernel cl) .at-first in omega arith)
   accept-sound (source l) (suc d) cl st ss =
@@ -155,8 +144,7 @@ module _ {G : Grammar} {A : Automaton} {line : List ℕ}
 
   -- START is no token
   start-no-token : {x : ℕ} → T (terminal x) → x ≡ START → ⊥
-  unfolding terminal
-  start-no-token {x} t e = let h = leb-iff x 63 .0 (and-both (leb 1 x) (leb x 63) .0 t .1) in omega arith
+  start-no-token {x} t e = let h = is-terminal x .0 t in omega arith
 
   accepting : {x i j : ℕ} → Span G line x i j → x ≡ START → i ≡ 0 → (s : ℕ) × Node G A line j s × A .Accepts s
   accepting (token {x = x} t h e) st z = absurd (start-no-token t st)

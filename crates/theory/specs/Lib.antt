@@ -8,6 +8,7 @@ pub mod Expansion
 pub mod Graph
 pub mod Parse
 pub mod Steps
+pub mod Size
 pub mod Form
 pub mod Calls
 pub mod Made
