@@ -1,18 +1,18 @@
 -- What the form says of every set number, used or not, and of what is reached: reached kernels name current rules only. Assumes nothing.
-use mathlib.Core.Path.{_≡_, refl, sym, _∙_, ap, subst}
+use mathlib.Core.Path.{_≡_, refl, sym, ap, subst}
 use mathlib.Core.Logic.{_≢_}
-use mathlib.Core.Bool.{Bool, false}
+use mathlib.Core.Bool.{false}
 use mathlib.Core.List.{List, [], _∷_, List·Memᴰ as In, List·Memᴰ·not-nil}
-use Prim.Native.Nat.{ℕ, _≤_, _<_, zero-le}
+use Prim.Native.Nat.{ℕ, _≤_, zero-le}
 use native.Mathlib.Decide.{decLt}
 use native.Mathlib.Omega.{arith}
-use lib.Dec.{T, eqb}
+use lib.Dec.{eqb}
 use lib.ListN.{length, List·getD-eq-default}
 use Rattle.laws.specs.Choice.{when}
 use Rattle.laws.specs.Lists.{keep, someIn, upFrom, Distinct}
-use Rattle.theory.specs.Table.{FREE, RulePlace, Item, SetPlace, Table, Transition, freeRule, freeSet, unexpanded, ruleAt, setAt, item, target, allItems, automaton, Reach}
+use Rattle.theory.specs.Table.{RulePlace, Item, SetPlace, Table, Transition, freeRule, freeSet, unexpanded, ruleAt, setAt, target, allItems, automaton, Reach}
 use Rattle.theory.specs.Table.Reach.{at-start, along}
-use Rattle.theory.specs.Form.{Named, InUse, Current, NamesCurrent, symbolsOf, RuleInForm, SetInForm, InForm}
+use Rattle.theory.specs.Form.{Named, InUse, NamesCurrent, symbolsOf, RuleInForm, SetInForm, InForm}
 use Rattle.theory.proofs.Items.{Ascends, in-start, current-is}
 use Rattle.theory.proofs.Transitions.{distinct-kept, only-transition, goto-transition}
 
@@ -59,6 +59,23 @@ unexpanded-in-form rs ss k a f = record {
   reductions-ascend = keep-none (upFrom 0 (length rs));
 }
 
+-- a set stays in form where every set in use is so still, with its kernel
+pub kept-in-form : {rs : List RulePlace} {ss ss′ : List SetPlace} {p : SetPlace}
+    → ((s : ℕ) → InUse ss s → InUse ss′ s × (setAt ss′ s .kernel ≡ setAt ss s .kernel)) → SetInForm rs ss p → SetInForm rs ss′ p
+kept-in-form {rs} h f = record {
+  states = f .states;
+  items = f .items;
+  reductions = f .reductions;
+  one-target = f .one-target;
+  targets = λ a m. let (u, d) = f .targets a m in (h (a .to) u .0, d);
+  current-reductions = f .current-reductions;
+  current-targets = λ c a m. subst (NamesCurrent rs) (sym (h (a .to) (f .targets a m .0) .1)) (f .current-targets c a m);
+  unused = f .unused;
+  bare = f .bare;
+  kernel-ascends = f .kernel-ascends;
+  reductions-ascend = f .reductions-ascend;
+}
+
 -- ---- every number of a table in form
 
 module _ (t : Table) (f : InForm t) where
@@ -77,8 +94,7 @@ module _ (t : Table) (f : InForm t) where
   -- the target on a transition's symbol is its target
   pub transition-goto : (u : ℕ) (a : Transition) → In a (setAt (t .sets) u .transitions) → automaton t .Goto u (a .on) (a .to)
   transition-goto u a m =
-      let p = set-form u in
-      (
+      let p = set-form u in (
         ap (λ b. b .to) (only-transition (setAt (t .sets) u .transitions) (subst Distinct (sym (p .one-target)) (distinct-kept (λ x. someIn (eqb x) (symbolsOf (setAt (t .sets) u))) 1 127)) a m),
         p .targets a m .1,
       )

@@ -11,23 +11,19 @@ use lib.Dec.{T, eqb}
 use lib.ListN.{length, getD, List·getD-eq-default}
 use Rattle.laws.specs.Choice.{_and_, _or_, when}
 use Rattle.laws.specs.Loops.{anyBelow, tab}
-use Rattle.laws.specs.Lists.{someIn, firstIn, unmarked}
+use Rattle.laws.specs.Lists.{someIn, unmarked}
 use Rattle.laws.proofs.Choice.{when-cases}
 use Rattle.laws.proofs.Tests.{and-both, or-either, any-below, eqb-iff}
-use Rattle.laws.proofs.Lists.{some-in, first-in}
+use Rattle.laws.proofs.Lists.{some-in}
 use Rattle.laws.proofs.Tables.{length-tab, getD-tab}
 use Rattle.laws.proofs.Growth.{keeps, settled, unmarked-le, Below, grows}
-use Rattle.theory.specs.Table.{FREE, SetPlace, Table, freeSet, setAt, noTransition, target, automaton, Reach}
+use Rattle.theory.specs.Table.{FREE, SetPlace, Table, freeSet, setAt, target, automaton, Reach}
 use Rattle.theory.specs.Table.Reach.{at-start, along}
 use Rattle.theory.specs.Expansion.{leadsTo, reachRound, reached, collected}
 use Rattle.theory.proofs.Symbols.{not-eqb}
 use Rattle.theory.proofs.Closure.{marked-inside}
+use Rattle.theory.proofs.Sets.{used-inside}
 use Rattle.theory.proofs.Transitions.{goto-transition}
-
--- a set in use stands in the table
-pub used-inside : (ss : List SetPlace) (s : ℕ) → setAt ss s .state ≢ FREE → s < length ss
-used-inside ss s d =
-    elim (decLt s (length ss)) [ yes h ↦ h | no h ↦ absurd (d (ap (λ p. p .state) (List·getD-eq-default ss freeSet {n = s} (omega arith)))) ]
 
 module _ (t : Table) (start : setAt (t .sets) 0 .state ≢ FREE)
     (targets : (u x : ℕ) → target (t .sets) u x ≢ 0 → setAt (t .sets) (target (t .sets) u x) .state ≢ FREE) where

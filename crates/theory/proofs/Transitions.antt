@@ -1,19 +1,18 @@
 -- A set's transitions as a list and as a function: where its symbols ascend, the target on a transition's symbol is its target.
 -- Assumes nothing.
-use mathlib.Core.Path.{_≡_, refl, sym, _∙_, ap, subst}
-use mathlib.Core.Logic.{_≢_, _⊎_, inl, inr, ⊎-elim}
-use mathlib.Core.Bool.{Bool, true, false}
+use mathlib.Core.Path.{_≡_, sym, _∙_, ap, subst}
+use mathlib.Core.Logic.{⊎-elim}
+use mathlib.Core.Bool.{Bool}
 use mathlib.Core.List.{List, [], _∷_, map, List·Memᴰ as In, List·Memᴰ·not-nil, List·Memᴰ·cases-cons}
-use Prim.Native.Nat.{ℕ, zero, suc, _≤_, _<_}
+use Prim.Native.Nat.{ℕ, zero, suc}
 use native.Mathlib.Omega.{arith}
 use lib.Dec.{T, eqb}
-use Rattle.laws.specs.Choice.{when}
-use Rattle.laws.specs.Lists.{consIf, keep, firstIn, upFrom, Distinct}
+use Rattle.laws.specs.Lists.{keep, firstIn, upFrom, Distinct}
 use Rattle.laws.specs.Lists.Distinct.{none, one-more}
 use Rattle.laws.proofs.Choice.{when-cases}
 use Rattle.laws.proofs.Tests.{eqb-iff}
 use Rattle.laws.proofs.Lists.{in-keep, in-map, in-up, first-in}
-use Rattle.theory.specs.Table.{SetPlace, Table, Transition, setAt, noTransition, target, automaton}
+use Rattle.theory.specs.Table.{Table, Transition, setAt, noTransition, target, automaton}
 
 -- what is kept of ascending numbers is distinct
 pub distinct-kept : (f : ℕ → Bool) (i n : ℕ) → Distinct (keep f (upFrom i n))
