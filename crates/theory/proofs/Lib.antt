@@ -29,6 +29,7 @@ pub mod Exact
 pub mod Counting
 pub mod Saturation
 pub mod OneOutcome
+pub mod Grounded
 pub mod Steps
 pub mod LaterLinks
 pub mod Positions

@@ -23,8 +23,8 @@ use Rattle.theory.proofs.Exact.{NodeIn, TrailIn, ShiftClosed, ReduceClo
 use Rattle.theory.proofs.Exact.NodeIn.{root-in, source-in}
 use Rattle.theory.proofs.Exact.TrailIn.{here-in, down-in}
 use Rattle.theory.proofs.Saturation.{noded, path}
-use Rattle.theory.proofs.Steps.{Grounded, grounded, saturated-grounded, shifted-grounded}
-use Rattle.theory.proofs.Later.{Later, reach-later}
+use Rattle.theory.proofs.Grounded.{Grounded, grounded, saturated-grounded, shifted-grounded, later-grounded}
+use Rattle.theory.proofs.Later.{Later}
 use Rattle.theory.proofs.LaterLinks.{node-reach, falls, trail-falls, link-later}
 
 -- every link of the list is one of the graph
@@ -138,12 +138,7 @@ module _ {t : Table} {line : List ℕ} {p : ℕ} {ls m : List Link} (𝓘 : Posi
 pub later-position : {t t′ : Table} {line : List ℕ} {p : ℕ} {ls : List Link} → InForm t → Later t t′ → Position t line p ls → Position t′ line p ls
 unfolding ReduceClosed ShiftClosed
 later-position {t} {t′} {line} {p} {ls} 𝓕 𝓛 𝓘 = record {
-  ground = record {
-    once = 𝓘 .ground .once;
-    low = 𝓘 .ground .low;
-    above = λ l n. reach-later 𝓕 𝓛 (𝓘 .ground .above l n);
-    under = λ l n. reach-later 𝓕 𝓛 (𝓘 .ground .under l n);
-  };
+  ground = later-grounded 𝓕 𝓛 (𝓘 .ground);
   sound = λ i s j v n. link-later 𝓕 𝓛 (𝓘 .sound i s j v n);
   base = 𝓘 .base;
   expanded = λ i s n h. ap (λ p. p .state) (same i s n h) ∙ 𝓘 .expanded i s n h;

@@ -1,5 +1,5 @@
--- `parsing` does the steps of specs/Steps.antt, on all tables of a kind that expansions keep: the turns are enough, since each turn
--- but the last expands a set at the position that stays expanded. What every such expansion keeps, the steps keep. Assumes nothing.
+-- `parsing` does the steps of specs/Steps.antt, on every table in form, made or not. The turns are enough: each turn but the last
+-- expands a set of a node here, and such a set stays expanded. Assumes nothing.
 use mathlib.Core.Path.{_≡_, refl, sym, _∙_, ap, subst}
 use mathlib.Core.Logic.{_↔_, _≢_, _⊎_, inl, inr, ⊎-elim}
 use mathlib.Core.Bool.{Bool, true, false, true≢false}
@@ -17,93 +17,17 @@ use Rattle.laws.proofs.Choice.{when-cases}
 use Rattle.laws.proofs.Tests.{and-both, eqb-iff}
 use Rattle.laws.proofs.Lists.{some-in, first-in, in-up, in-add, distinct-add, add-length, add-same}
 use Rattle.theory.specs.Table.{UNEXPANDED, EXPANDED, Table, SetPlace, freeSet, ruleAt, setAt, target, automaton, Reach}
-use Rattle.theory.specs.Table.Reach.{at-start, along}
 use Rattle.theory.specs.Expansion.{expand}
 use Rattle.theory.specs.Parse.{Link, link, sameLink, nodesAt, saturate, lowestUnexpanded, Settled, settled, settle, Outcome, outcome, shifts, accepting, turns, parsing}
-use Rattle.theory.specs.Steps.{Linked, Noded, Path, Saturated, Lowest, Ready, Shifted, Steps}
-use Rattle.theory.specs.Steps.Linked.{given, reduced}
-use Rattle.theory.specs.Steps.Noded.{root, source}
-use Rattle.theory.specs.Steps.Path.{here, down}
+use Rattle.theory.specs.Steps.{Saturated, Lowest, Ready, Shifted, Steps}
 use Rattle.theory.specs.Steps.Steps.{no-links, no-sets, expands, accepts, rejects, stuck, shift-full, shifts as shifts-on}
 use Rattle.theory.proofs.Counting.{no-longer}
-use Rattle.theory.proofs.Exact.{same-link, NodeIn, in-nodesAt, in-shifts}
-use Rattle.theory.proofs.Exact.NodeIn.{root-in, source-in}
+use Rattle.theory.proofs.Exact.{same-link, in-nodesAt, in-shifts}
 use Rattle.theory.proofs.Saturation.{saturate-full, saturate-whole}
-
--- ---- what holds of the links at a position: no link twice, none from a later position, and all sets are reached
-
-pub record Grounded (t : Table) (p : ℕ) (ls : List Link) : Type 0 where
-  pub once : Distinct ls
-  pub low : (l : Link) → In l ls → l .i ≤ p
-  pub above : (l : Link) → In l ls → Reach t (l .s)
-  pub under : (l : Link) → In l ls → Reach t (l .t)
-
-pub grounded : (t : Table) → Grounded t 0 []
-grounded t = record {
-  once = none;
-  low = λ l n. absurd (List·Memᴰ·not-nil n);
-  above = λ l n. absurd (List·Memᴰ·not-nil n);
-  under = λ l n. absurd (List·Memᴰ·not-nil n);
-}
-
-pub node-reach : {t : Table} {p i u : ℕ} {ls : List Link} → Grounded t p ls → NodeIn ls i u → Reach t u
-node-reach 𝓖 root-in = at-start
-node-reach 𝓖 (source-in n) = 𝓖 .above _ n
-
-module _ {t : Table} {p : ℕ} {ls : List Link} (𝓖 : Grounded t p ls) where
-  mutual
-    linked-reach : {l : Link} → Linked t ls p l → Reach t (l .s) × Reach t (l .t)
-    linked-reach (given n) = (𝓖 .above _ n, 𝓖 .under _ n)
-    linked-reach (reduced r n d q g e) =
-        let h = path-reach q (noded-reach n) in
-        subst (λ l. Reach t (l .s) × Reach t (l .t)) e (along (ruleAt (t .rules) r .left) h g, h)
-
-    noded-reach : {u : ℕ} → Noded t ls p u → Reach t u
-    noded-reach (root e) = at-start
-    noded-reach (source l) = linked-reach l .0
-
-    path-reach : {k i u j v : ℕ} → Path t ls p k i u j v → Reach t u → Reach t v
-    path-reach here h = h
-    path-reach (down l q) h = path-reach q (linked-reach l .1)
-
-  linked-low : {l : Link} → Linked t ls p l → l .i ≤ p
-  linked-low (given n) = 𝓖 .low _ n
-  linked-low (reduced r n d q g e) = omega (arith, ap (λ l. l .i) e)
-
-  pub saturated-grounded : {m : List Link} → Saturated t p ls m → Grounded t p m
-  saturated-grounded s = record {
-    once = s .once;
-    low = λ l n. linked-low (s .all l .0 n);
-    above = λ l n. linked-reach (s .all l .0 n) .0;
-    under = λ l n. linked-reach (s .all l .0 n) .1;
-  }
-
-  pub shifted-grounded : {x : ℕ} {n : List Link} → Shifted t p x ls n → Grounded t (suc p) n
-  shifted-grounded {x} s = record {
-    once = s .once;
-    low = λ l k. ⊎-elim (λ o. let h = 𝓖 .low l o in omega arith) (λ (u, v, o, g, e). omega (arith, ap (λ l. l .i) e)) (s .all l .0 k);
-    above = λ l k. ⊎-elim (𝓖 .above l) (λ (u, v, o, g, e). subst (λ l. Reach t (l .s)) (sym e) (along x (reached o) g)) (s .all l .0 k);
-    under = λ l k. ⊎-elim (𝓖 .under l) (λ (u, v, o, g, e). subst (λ l. Reach t (l .t)) (sym e) (reached o)) (s .all l .0 k);
-  }
-    where
-      reached : {u : ℕ} → In u (nodesAt ls p) → Reach t u
-      reached o = node-reach 𝓖 (in-nodesAt ls p .0 o)
-
--- ---- tables of a kind that expansions keep
-
--- what an expansion of u that was done leaves of what is reached
-pub record Grows (t : Table) (u : ℕ) (t′ : Table) : Type 0 where
-  pub size : length (t′ .sets) ≡ length (t .sets)
-  pub reach : (s : ℕ) → Reach t s → Reach t′ s
-  pub stays : (s : ℕ) → Reach t s → setAt (t .sets) s .state ≡ EXPANDED → setAt (t′ .sets) s .state ≡ EXPANDED
-  pub filled : setAt (t′ .sets) u .state ≡ EXPANDED
-
-pub record Steady (P : Table → Type 0) : Type 0 where
-  pub keeps : (t : Table) (u : ℕ) → P t → Reach t u → setAt (t .sets) u .state ≡ UNEXPANDED → P (expand t u .table)
-  pub grows : (t : Table) (u : ℕ) → P t → Reach t u → setAt (t .sets) u .state ≡ UNEXPANDED → expand t u .done ≡ true → Grows t u (expand t u .table)
-
-grown-grounded : {t t′ : Table} {u p : ℕ} {m : List Link} → Grows t u t′ → Grounded t p m → Grounded t′ p m
-grown-grounded g 𝓖 = record { once = 𝓖 .once; low = 𝓖 .low; above = λ l n. g .reach (l .s) (𝓖 .above l n); under = λ l n. g .reach (l .t) (𝓖 .under l n) }
+use Rattle.theory.specs.Form.{InForm}
+use Rattle.theory.proofs.Later.{Later, reach-later, expand-later, expand-done}
+use Rattle.theory.proofs.FormGrown.{expand-in-form}
+use Rattle.theory.proofs.Grounded.{Grounded, grounded, saturated-grounded, shifted-grounded, later-grounded, lowest-reach}
 
 -- ---- the lowest-numbered unexpanded set of a node here
 
@@ -174,24 +98,26 @@ few {t} {done} 𝓓 = let h = no-longer (𝓓 .once) (upFrom 0 (length (t .sets)
     up-length i zero = refl
     up-length i (suc n) = ap suc (up-length (suc i) n)
 
-one-expansion : {t t′ : Table} {u : ℕ} {done : List ℕ} → Reach t u → setAt (t .sets) u .state ≡ UNEXPANDED → Grows t u t′ → Expansions t done → Expansions t′ (u ∷ done)
-one-expansion {t} {t′} {u} h e g 𝓓 = record {
-  once = one-more (λ n. let z = 𝓓 .expanded u n in omega arith) (𝓓 .once);
-  reached = λ s n. ⊎-elim (λ q. g .reach s (subst (Reach t) (sym q) h)) (λ k. g .reach s (𝓓 .reached s k)) (List·Memᴰ·cases-cons n);
-  expanded = λ s n. ⊎-elim (λ q. subst (λ s. setAt (t′ .sets) s .state ≡ EXPANDED) (sym q) (g .filled)) (λ k. g .stays s (𝓓 .reached s k) (𝓓 .expanded s k)) (List·Memᴰ·cases-cons n);
+one-expansion : {t t′ : Table} {u : ℕ} {done : List ℕ} → InForm t → Reach t u → setAt (t .sets) u .state ≡ UNEXPANDED → Later t t′
+    → setAt (t′ .sets) u .state ≡ EXPANDED → Expansions t done → Expansions t′ (u ∷ done)
+one-expansion {t} {t′} {u} 𝓕 h e 𝓛 z 𝓓 = record {
+  once = one-more (λ n. let y = 𝓓 .expanded u n in omega arith) (𝓓 .once);
+  reached = λ s n. reach-later 𝓕 𝓛 (⊎-elim (λ q. subst (Reach t) (sym q) h) (𝓓 .reached s) (List·Memᴰ·cases-cons n));
+  expanded = λ s n. ⊎-elim (λ q. subst (λ s. setAt (t′ .sets) s .state ≡ EXPANDED) (sym q) z)
+      (λ k. ap (λ p. p .state) (𝓛 .same s (𝓓 .reached s k) (𝓓 .expanded s k)) ∙ 𝓓 .expanded s k) (List·Memᴰ·cases-cons n);
 }
 
-module _ (P : Table → Type 0) (𝓢 : Steady P) (pool p : ℕ) (line : List ℕ) (finish : Settled → Outcome)
+module _ (pool p : ℕ) (line : List ℕ) (finish : Settled → Outcome)
     (refuse : (a : ℕ) (t : Table) (m : List Link) → a ≢ 0 → outcome a 0 t ≡ finish (settled a t m))
-    (go-on : (t : Table) (ls m : List Link) → P t → Grounded t p m → Ready pool t p ls m → Steps pool t p ls line (finish (settled 0 t m))) where
-  settle-steps : (k : ℕ) (t : Table) (ls : List Link) (done : List ℕ) → P t → Grounded t p ls → Expansions t done → length (t .sets) < k + length done
+    (go-on : (t : Table) (ls m : List Link) → InForm t → Grounded t p m → Ready pool t p ls m → Steps pool t p ls line (finish (settled 0 t m))) where
+  settle-steps : (k : ℕ) (t : Table) (ls : List Link) (done : List ℕ) → InForm t → Grounded t p ls → Expansions t done → length (t .sets) < k + length done
       → Steps pool t p ls line (finish (settle k pool t p ls))
-  settle-steps zero t ls done 𝓟 𝓖 𝓓 f = absurd (omega (arith, few 𝓓))
-  settle-steps (suc k) t ls done 𝓟 𝓖 𝓓 f =
+  settle-steps zero t ls done 𝓕 𝓖 𝓓 f = absurd (omega (arith, few 𝓓))
+  settle-steps (suc k) t ls done 𝓕 𝓖 𝓓 f =
       when-cases Goes (ltb pool (length m))
       (λ y. let (n, s, h) = saturate-full t p ls pool (𝓖 .once) (ltb→lt pool (length m) (subst T (sym y) tt)) in
       no-links s h (refuse 21 t m (λ z. omega arith)))
-      (λ y. in-pool (λ t′ 𝓟 𝓖 done 𝓓 f. settle-steps k t′ m done 𝓟 𝓖 𝓓 f)
+      (λ y. in-pool (λ t′ 𝓕 𝓖 done 𝓓 f. settle-steps k t′ m done 𝓕 𝓖 𝓓 f)
       (elim (decLt pool (length m)) [ yes h ↦ absurd (subst T y (lt→ltb pool (length m) h)) | no h ↦ omega arith ]))
     where
       Goes : Settled → Type 0
@@ -206,17 +132,19 @@ module _ (P : Table → Type 0) (𝓢 : Steady P) (pool p : ℕ) (line : List �
       expanding : Settled
       expanding = when (expand t v .done) (settle k pool (expand t v .table) p m) (settled 20 (expand t v .table) m)
 
-      in-pool : ((t′ : Table) → P t′ → Grounded t′ p m → (done : List ℕ) → Expansions t′ done → length (t′ .sets) < k + length done → Steps pool t′ p m line (finish (settle k pool t′ p m)))
+      in-pool : ((t′ : Table) → InForm t′ → Grounded t′ p m → (done : List ℕ) → Expansions t′ done → length (t′ .sets) < k + length done → Steps pool t′ p m line (finish (settle k pool t′ p m)))
           → length m ≤ pool → Steps pool t p ls line (finish (when (ltb v (length (t .sets))) expanding (settled 0 t m)))
       in-pool again h =
           when-cases Goes (ltb v (length (t .sets)))
           (λ y. let w = lowest t p m (ltb→lt v (length (t .sets)) (subst T (sym y) tt)) in
-          let r = node-reach 𝓖′ (in-nodesAt m p .0 (w .here)) in
+          let r = lowest-reach 𝓖 s w in
+          let 𝓛 = expand-later t 𝓕 v r (w .unexpanded) in
           when-cases Goes (expand t v .done)
-          (λ d. let g = 𝓢 .grows t v 𝓟 r (w .unexpanded) d in
-          expands s h w d (again (expand t v .table) (𝓢 .keeps t v 𝓟 r (w .unexpanded)) (grown-grounded g 𝓖′) (v ∷ done) (one-expansion r (w .unexpanded) g 𝓓) (omega (arith, g .size))))
+          (λ d. let z = expand-done t 𝓕 v r (w .unexpanded) (subst T (sym d) tt) in
+          expands s h w d (again (expand t v .table) (expand-in-form t 𝓕 v r (w .unexpanded)) (later-grounded 𝓕 𝓛 𝓖′) (v ∷ done)
+          (one-expansion 𝓕 r (w .unexpanded) 𝓛 z 𝓓) (omega (arith, 𝓛 .size))))
           (λ d. no-sets s h w d (refuse 20 (expand t v .table) m (λ z. omega arith))))
-          (λ y. go-on t ls m 𝓟 𝓖′ (record { saturated = s; in-pool = h; none-left = none-left t p m (λ l. subst T y (lt→ltb v (length (t .sets)) l)) }))
+          (λ y. go-on t ls m 𝓕 𝓖′ (record { saturated = s; in-pool = h; none-left = none-left t p m (λ l. subst T y (lt→ltb v (length (t .sets)) l)) }))
         where
           s : Saturated t p ls m
           s = saturate-whole t p ls pool (𝓖 .once) h
@@ -226,7 +154,7 @@ module _ (P : Table → Type 0) (𝓢 : Steady P) (pool p : ℕ) (line : List �
 
 -- ---- the steps from a position to their outcome
 
-module _ (P : Table → Type 0) (𝓢 : Steady P) (pool : ℕ) where
+module _ (pool : ℕ) where
   -- at the end of the line
   ended : (t : Table) (p : ℕ) (ls m : List Link) → Ready pool t p ls m → Steps pool t p ls [] (outcome (when (accepting t m p) 1 2) (length m) t)
   ended t p ls m r =
@@ -280,15 +208,19 @@ module _ (P : Table → Type 0) (𝓢 : Steady P) (pool : ℕ) where
   refused a t o d = when-cases (λ o. outcome a 0 t ≡ o) (eqb a 0) (λ e. absurd (d (eqb-iff a 0 .0 (subst T (sym e) tt)))) (λ e. refl)
 
   -- `parsing` does the steps
-  pub parsing-does : (line : List ℕ) (t : Table) (p : ℕ) (ls : List Link) → P t → Grounded t p ls → Steps pool t p ls line (parsing pool t p ls line)
+  pub parsing-steps : (line : List ℕ) (t : Table) (p : ℕ) (ls : List Link) → InForm t → Grounded t p ls → Steps pool t p ls line (parsing pool t p ls line)
   unfolding n when
-  parsing-does [] t p ls 𝓟 𝓖 =
-      settle-steps P 𝓢 pool p [] (λ e. when (eqb (e .answer) 0) (outcome (when (accepting (e .table) (e .links) p) 1 2) (length (e .links)) (e .table)) (outcome (e .answer) 0 (e .table)))
-      (λ a t m d. refused a t _ d) (λ t ls m 𝓟 𝓖 r. ended t p ls m r)
-      (turns t) t ls [] 𝓟 𝓖 (no-expansions t) (omega arith)
-  parsing-does (x ∷ w) t p ls 𝓟 𝓖 =
-      settle-steps P 𝓢 pool p (x ∷ w) (λ e. when (eqb (e .answer) 0) (let m = addNew sameLink (e .links) (shifts (e .table) (e .links) p x) in
+  parsing-steps [] t p ls 𝓕 𝓖 =
+      settle-steps pool p [] (λ e. when (eqb (e .answer) 0) (outcome (when (accepting (e .table) (e .links) p) 1 2) (length (e .links)) (e .table)) (outcome (e .answer) 0 (e .table)))
+      (λ a t m d. refused a t _ d) (λ t ls m 𝓕 𝓖 r. ended t p ls m r)
+      (turns t) t ls [] 𝓕 𝓖 (no-expansions t) (omega arith)
+  parsing-steps (x ∷ w) t p ls 𝓕 𝓖 =
+      settle-steps pool p (x ∷ w) (λ e. when (eqb (e .answer) 0) (let m = addNew sameLink (e .links) (shifts (e .table) (e .links) p x) in
       when (eqb (length m) (length (e .links))) (outcome 2 (length m) (e .table)) (when (ltb pool (length m)) (outcome 21 0 (e .table)) (parsing pool (e .table) (suc p) m w))) (outcome (e .answer) 0 (e .table)))
       (λ a t m d. refused a t _ d)
-      (λ t ls m 𝓟 𝓖 r. moved t p x ls m 𝓖 r w _ (λ 𝓖′. parsing-does w t (suc p) (addNew sameLink m (shifts t m p x)) 𝓟 𝓖′))
-      (turns t) t ls [] 𝓟 𝓖 (no-expansions t) (omega arith)
+      (λ t ls m 𝓕 𝓖 r. moved t p x ls m 𝓖 r w _ (λ 𝓖′. parsing-steps w t (suc p) (addNew sameLink m (shifts t m p x)) 𝓕 𝓖′))
+      (turns t) t ls [] 𝓕 𝓖 (no-expansions t) (omega arith)
+
+-- and so does Parse past its checks
+pub parse-steps : (pool : ℕ) (t : Table) (line : List ℕ) → InForm t → Steps pool t 0 [] line (parsing pool t 0 [] line)
+parse-steps pool t line 𝓕 = parsing-steps pool line t 0 [] 𝓕 (grounded t)
