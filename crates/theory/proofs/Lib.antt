@@ -33,3 +33,4 @@ pub mod Grounded
 pub mod Steps
 pub mod LaterLinks
 pub mod Positions
+pub mod Checks
