@@ -34,3 +34,4 @@ pub mod Steps
 pub mod LaterLinks
 pub mod Positions
 pub mod Checks
+pub mod Ends
