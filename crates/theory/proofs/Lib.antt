@@ -35,3 +35,4 @@ pub mod LaterLinks
 pub mod Positions
 pub mod Checks
 pub mod Ends
+pub mod Parsing
