@@ -36,3 +36,4 @@ pub mod Positions
 pub mod Checks
 pub mod Ends
 pub mod Parsing
+pub mod Answers

@@ -12,3 +12,4 @@ pub mod Size
 pub mod Form
 pub mod Calls
 pub mod Made
+pub mod Answers
