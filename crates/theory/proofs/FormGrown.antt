@@ -19,7 +19,7 @@ use Rattle.theory.specs.Items.Moved.{moved as move}
 use Rattle.theory.specs.Table.{UNEXPANDED, RulePlace, Item, SetPlace, Table, Transition, unexpanded, ruleAt, setAt, item, grammar, Reach}
 use Rattle.theory.specs.Expansion.{after, closure, moved, symbols, leading, completed, filled, collected, hasRoom, grown, Step, expand}
 use Rattle.theory.specs.Form.{Named, NamesCurrent, SetInForm, InForm}
-use Rattle.theory.proofs.Items.{Listed, keep-cong, current-is}
+use Rattle.theory.proofs.Items.{Listed, keep-cong, current-is, closure-current, moved-current}
 use Rattle.theory.proofs.Kernels.{in-moved, is-completed, moved-ascends, symbol-range}
 use Rattle.theory.proofs.Sets.{Holds}
 use Rattle.theory.proofs.Formed.{ruled, ranged, reach-same}
@@ -34,14 +34,6 @@ kept-numbers f i n = keep-cong f (λ x. someIn (eqb x) (keep f (upFrom i n))) (u
   λ t. some-in (eqb x) (keep f (upFrom i n)) .1 (x, in-keep f (upFrom i n) .1 (m, t), eqb-iff x x .1 refl),
   λ t. let (y, a, e) = some-in (eqb x) (keep f (upFrom i n)) .0 t in subst (λ y. T (f y)) (sym (eqb-iff x y .0 e)) (in-keep f (upFrom i n) .0 a .1),
 ))
-
--- the items of a closure name current rules where those of the kernel do
-closure-current : {G : Grammar} {K : Items} → ((r d : ℕ) → K r d → T (G .current r)) → {r d : ℕ} → Closure G K r d → T (G .current r)
-closure-current f (kernel k) = f _ _ k
-closure-current f (added c n t cur e) = cur
-
-moved-current : {G : Grammar} {K : Items} → ((r d : ℕ) → K r d → T (G .current r)) → {x r d : ℕ} → Moved G K x r d → T (G .current r)
-moved-current f (move c n) = closure-current f c
 
 -- and in any case rules in use, with dots within length
 module _ (rs : List RulePlace) {K : Items} (f : (r d : ℕ) → K r d → Named rs r) where

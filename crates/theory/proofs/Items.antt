@@ -150,3 +150,12 @@ moved-back (moved c n) = (c, n)
 
 pub moved-dot : {G : Grammar} {K : Items} {x r d : ℕ} → Moved G K x r d → 1 ≤ d
 moved-dot (moved {d = d} c n) = omega arith
+
+-- the items of a closure name current rules where those of the kernel do, and so do the moved ones
+module _ {G : Grammar} {K : Items} (f : (r d : ℕ) → K r d → T (G .current r)) where
+  pub closure-current : {r d : ℕ} → Closure G K r d → T (G .current r)
+  closure-current (kernel k) = f _ _ k
+  closure-current (added c n t cur e) = cur
+
+  pub moved-current : {x r d : ℕ} → Moved G K x r d → T (G .current r)
+  moved-current (moved c n) = closure-current c

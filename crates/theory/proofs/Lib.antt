@@ -17,11 +17,13 @@ pub mod FormCollected
 pub mod FormRestarted
 pub mod Carry
 pub mod Grown
+pub mod FormGrown
 pub mod Later
 pub mod Consistent
-pub mod FormGrown
 pub mod Keeping
 pub mod Changed
+pub mod Changes
+pub mod Accepted
 pub mod Derivation
 pub mod Spans
 pub mod Verdict
@@ -31,9 +33,10 @@ pub mod Saturation
 pub mod OneOutcome
 pub mod Grounded
 pub mod Steps
+pub mod Checks
 pub mod LaterLinks
 pub mod Positions
-pub mod Checks
 pub mod Ends
 pub mod Parsing
 pub mod Answers
+pub mod History

@@ -13,3 +13,4 @@ pub mod Form
 pub mod Calls
 pub mod Made
 pub mod Answers
+pub mod Changes
