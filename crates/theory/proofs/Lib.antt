@@ -40,3 +40,4 @@ pub mod Ends
 pub mod Parsing
 pub mod Answers
 pub mod History
+pub mod Rules

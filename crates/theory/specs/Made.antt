@@ -7,7 +7,7 @@ use Prim.Native.Nat.{ℕ}
 use lib.Dec.{T, eqb}
 use Rattle.laws.specs.Choice.{_and_, when}
 use Rattle.laws.specs.Lists.{keep, sameList}
-use Rattle.theory.specs.Table.{Table}
+use Rattle.theory.specs.Table.{CURRENT, Table, ruleAt}
 use Rattle.theory.specs.Parse.{Outcome}
 use Rattle.theory.specs.Calls as calls
 
@@ -33,6 +33,13 @@ pub record Rule : Type 0 where
 
 abbrev pub rule : ℕ → List ℕ → Rule
 rule x w = record { left = x; right = w }
+
+-- it is a current rule of the table
+pub record CurrentRule (t : Table) (p : Rule) : Type 0 where
+  pub number : ℕ
+  pub current : ruleAt (t .rules) number .state ≡ CURRENT
+  pub left : ruleAt (t .rules) number .left ≡ p .left
+  pub right : ruleAt (t .rules) number .right ≡ p .right
 
 abbrev pub isThis : ℕ → List ℕ → Rule → Bool
 isThis x w p = eqb (p .left) x and sameList (p .right) w
