@@ -41,3 +41,5 @@ pub mod Parsing
 pub mod Answers
 pub mod History
 pub mod Rules
+pub mod ParseCall
+pub mod Demand2

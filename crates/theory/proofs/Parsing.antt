@@ -2,7 +2,7 @@
 -- number is the size of the graph; it leaves a later table. On a consistent table it accepts exactly if START derives the line.
 -- Assumes nothing.
 use mathlib.Core.Path.{_≡_, refl, sym, _∙_, ap, subst}
-use mathlib.Core.Logic.{_↔_, _≢_, _⊎_, inl, inr}
+use mathlib.Core.Logic.{_↔_, _⊎_, inl, inr, ⊎-elim}
 use mathlib.Core.List.{List, [], _∷_}
 use Prim.Native.Nat.{ℕ, _<_, zero-le}
 use native.Mathlib.Omega.{arith}
@@ -102,10 +102,17 @@ module _ (pool : ℕ) (t : Table) (line : List ℕ) (𝓒 : Consistent t) (token
   pub parsing-consistent : Consistent (parsing pool t 0 [] line .table)
   parsing-consistent = steps-keep Consistent (λ t u 𝓕 𝓒 h v. expand-consistent t 𝓒 u h v) (parse-steps pool t line (𝓒 .form)) (𝓒 .form) (grounded t) 𝓒
 
-  pub accepts-derives : parsing pool t 0 [] line .answer ≡ 1 → Derives (grammar (t .rules)) (START ∷ []) line
+  accepts-derives : parsing pool t 0 [] line .answer ≡ 1 → Derives (grammar (t .rules)) (START ∷ []) line
   unfolding Right
   accepts-derives e = same-language (parsing-later pool t line (𝓒 .form)) .1 (right tokens parsing-consistent (ends pool t line (𝓒 .form)) .0 e)
 
-  pub rejects-derives : parsing pool t 0 [] line .answer ≡ 2 → Derives (grammar (t .rules)) (START ∷ []) line → ⊥
+  rejects-derives : parsing pool t 0 [] line .answer ≡ 2 → Derives (grammar (t .rules)) (START ∷ []) line → ⊥
   unfolding Right
   rejects-derives e d = right tokens parsing-consistent (ends pool t line (𝓒 .form)) .1 e (same-language (parsing-later pool t line (𝓒 .form)) .0 d)
+
+  -- a verdict is accept exactly if START derives the line
+  pub parsing-verdict : (o : Outcome) → parsing pool t 0 [] line ≡ o → (o .answer ≡ 1) ⊎ (o .answer ≡ 2) → (o .answer ≡ 1) ↔ Derives (grammar (t .rules)) (START ∷ []) line
+  parsing-verdict o q v = (
+    λ e. accepts-derives (ap (λ o. o .answer) q ∙ e),
+    λ d. ⊎-elim (λ e. e) (λ e. absurd (rejects-derives (ap (λ o. o .answer) q ∙ e) d)) v,
+  )
