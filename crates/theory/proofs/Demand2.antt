@@ -2,24 +2,23 @@
 -- START derives it, by the table's current rules and equally by the rules that the history left; the number is the size of the graph of
 -- links; 20 and 21 come exactly when the steps say, and there is no other answer. Assumes nothing.
 use mathlib.Core.Path.{_≡_, refl, sym, _∙_, ap, subst}
-use mathlib.Core.Logic.{_↔_, _≢_, _⊎_, inl, inr, ⊎-elim, Iff·trans}
-use mathlib.Core.Bool.{Bool}
-use mathlib.Core.List.{List, [], _∷_, List·Memᴰ as In, List·Memᴰ·head as at-head, List·Memᴰ·tail as in-tail, List·Memᴰ·cases-cons, List·Memᴰ·not-nil}
-use Prim.Native.Nat.{ℕ, zero, suc, _<_}
+use mathlib.Core.Logic.{_↔_, _⊎_, ⊎-elim, Iff·trans}
+use mathlib.Core.List.{List, [], _∷_}
+use Prim.Native.Nat.{ℕ}
 use native.Mathlib.Omega.{arith}
-use lib.Dec.{T, eqb, ltb, ltb→lt, lt→ltb}
+use lib.Dec.{eqb, ltb→lt, lt→ltb}
 use lib.ListN.{length, getD}
-use Rattle.laws.specs.Choice.{when}
 use Rattle.laws.proofs.Choice.{when-cases}
 use Rattle.symbols.specs.Symbol.{START}
 use Rattle.theory.specs.Derivation.{Derives}
-use Rattle.theory.specs.Table.{Table, grammar}
+use Rattle.theory.specs.Table.{Table, ruleAt, grammar}
+use Rattle.theory.specs.Form.{Current}
 use Rattle.theory.specs.Parse.{Link, Outcome}
 use Rattle.theory.specs.Steps.{Steps}
 use Rattle.theory.specs.Size.{Exactly, Size}
 use Rattle.theory.specs.Calls.{parse}
 use Rattle.theory.specs.Answers.{Fits}
-use Rattle.theory.specs.Made.{Rule, rule, CurrentRule, grammarOf, Made}
+use Rattle.theory.specs.Made.{Rule, rule, grammarOf, Made}
 use Rattle.theory.specs.Made.Call.{parse as parse-call}
 use Rattle.theory.specs.Made.Made.{after}
 use Rattle.theory.proofs.Items.{current-is}
@@ -28,9 +27,9 @@ use Rattle.theory.proofs.Derivation.{same-current}
 use Rattle.theory.proofs.Checks.{all-tokens}
 use Rattle.theory.proofs.Parsing.{Answered, one-size, parsing-answers, parsing-verdict}
 use Rattle.theory.proofs.Parsing.Answered.{verdict-given, no-room}
-use Rattle.theory.proofs.ParseCall.{past-checks, outcome-of-steps}
+use Rattle.theory.proofs.ParseCall.{past-checks, outcome-of-steps, parse-later}
 use Rattle.theory.proofs.History.{made-consistent, made-in-form}
-use Rattle.theory.proofs.Rules.{Lists, rules-left}
+use Rattle.theory.proofs.Rules.{rules-left}
 
 -- the table's current rules and the rules that the history left derive the same
 pub by-rules-left : {t : Table} {R : List Rule} → Made t R → {f g : List ℕ} → Derives (grammar (t .rules)) f g ↔ Derives (grammarOf R) f g
@@ -47,6 +46,9 @@ module _ {t : Table} {R : List Rule} (m : Made t R) (pool : ℕ) (line : List �
   -- the next line is read on a made table with the same rules
   pub still-made : Made (parse t pool line .table) R
   still-made = after (parse-call pool line) m refl (when-cases (λ (S : List Rule). S ≡ R) (eqb (parse t pool line .answer) 0) (λ e. refl) (λ e. refl))
+
+  pub rules-stay : (r : ℕ) → Current (t .rules) r ⊎ Current (parse t pool line .table .rules) r → ruleAt (parse t pool line .table .rules) r ≡ ruleAt (t .rules) r
+  rules-stay r = ⊎-elim (parse-later t (made-in-form m) pool line .on r) (λ c. sym (parse-later t (made-in-form m) pool line .back r c))
 
   module _ (c : Fits pool line) where
     -- the answer is 1, 2, 20 or 21; with 1 and 2 comes the size of the graph, with 20 and 21 comes 0

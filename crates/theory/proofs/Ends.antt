@@ -1,15 +1,15 @@
 -- How the steps end, on every table in form: on accept and reject the links are exactly those of the graph over the automaton of the
 -- table that Parse leaves, and all sets of its nodes are expanded. Assumes nothing.
-use mathlib.Core.Path.{_≡_, refl, sym, _∙_, ap, subst}
-use mathlib.Core.Logic.{_≢_, _⊎_, inl, inr}
+use mathlib.Core.Path.{_≡_, sym, _∙_, ap, subst}
+use mathlib.Core.Logic.{_⊎_, inl, inr}
 use mathlib.Core.List.{List, [], _∷_, List·Memᴰ as In}
-use Prim.Native.Nat.{ℕ, zero, suc, _≤_, _<_, zero-le}
+use Prim.Native.Nat.{ℕ, suc, _≤_, _<_, zero-le}
 use native.Mathlib.Decide.{ℕ-discrete}
 use native.Mathlib.Omega.{arith}
 use lib.Dec.{T}
 use lib.ListN.{length, getD, drop, length-drop}
 use lib.Seq.{drop-cons}
-use Rattle.theory.specs.Table.{UNEXPANDED, EXPANDED, Table, setAt, target, grammar, automaton}
+use Rattle.theory.specs.Table.{EXPANDED, Table, setAt, target, grammar, automaton}
 use Rattle.theory.specs.Graph as graph
 use Rattle.theory.specs.Form.{InForm}
 use Rattle.theory.specs.Parse.{Link, link, nodesAt, Outcome, outcome}

@@ -1,17 +1,17 @@
 -- Parse's steps leave no choice: two runs of them from the same table, position, links and line have the same outcome, whatever the
 -- order of the links (theorem `steps-one`). Assumes nothing.
-use mathlib.Core.Path.{_≡_, refl, sym, _∙_, ap, subst}
-use mathlib.Core.Logic.{_↔_, _≢_, _⊎_, inl, inr, ⊎-elim, Iff·trans}
-use mathlib.Core.Bool.{true, false, true≢false, false≢true}
+use mathlib.Core.Path.{_≡_, sym, _∙_, ap, subst}
+use mathlib.Core.Logic.{_↔_, _⊎_, inl, inr, ⊎-elim}
+use mathlib.Core.Bool.{true, false, false≢true}
 use mathlib.Core.List.{List, [], _∷_, List·Memᴰ as In}
-use Prim.Native.Nat.{ℕ, zero, suc, _≤_, _<_}
+use Prim.Native.Nat.{ℕ, suc, _≤_, _<_}
 use native.Mathlib.Decide.{ℕ-discrete, decLt}
 use native.Mathlib.Omega.{arith}
 use lib.Dec.{T}
 use lib.ListN.{length}
-use Rattle.theory.specs.Table.{UNEXPANDED, Table, setAt, target, automaton}
+use Rattle.theory.specs.Table.{Table, setAt, target}
 use Rattle.theory.specs.Expansion.{expand}
-use Rattle.theory.specs.Parse.{Link, link, nodesAt, Outcome, outcome}
+use Rattle.theory.specs.Parse.{Link, nodesAt, Outcome, outcome}
 use Rattle.theory.specs.Steps.{Linked, Noded, Path, Saturated, Lowest, Ready, Shifted, Steps}
 use Rattle.theory.specs.Steps.Linked.{given, reduced}
 use Rattle.theory.specs.Steps.Noded.{root, source}

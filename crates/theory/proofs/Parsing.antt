@@ -4,17 +4,15 @@
 use mathlib.Core.Path.{_≡_, refl, sym, _∙_, ap, subst}
 use mathlib.Core.Logic.{_↔_, _⊎_, inl, inr, ⊎-elim}
 use mathlib.Core.List.{List, [], _∷_}
-use Prim.Native.Nat.{ℕ, _<_, zero-le}
+use Prim.Native.Nat.{ℕ, zero-le}
 use native.Mathlib.Omega.{arith}
-use lib.Dec.{T}
 use lib.ListN.{length}
 use Rattle.symbols.specs.Symbol.{START}
 use Rattle.theory.specs.Derivation.{Derives}
-use Rattle.theory.specs.Items.{Expanded}
-use Rattle.theory.specs.Table.{CURRENT, Table, ruleAt, grammar, automaton}
+use Rattle.theory.specs.Table.{Table, grammar, automaton}
 use Rattle.theory.specs.Graph as graph
-use Rattle.theory.specs.Form.{InForm, Current}
-use Rattle.theory.specs.Parse.{Link, Outcome, outcome, parsing}
+use Rattle.theory.specs.Form.{InForm}
+use Rattle.theory.specs.Parse.{Link, Outcome, parsing}
 use Rattle.theory.specs.Steps.{Steps}
 use Rattle.theory.specs.Size.{Exactly, Size}
 use Rattle.theory.proofs.Items.{current-is}
@@ -69,7 +67,7 @@ module _ (pool : ℕ) (t : Table) (line : List ℕ) (𝓕 : InForm t) where
 -- ---- on a consistent table
 
 -- a later table has the same language
-pub same-language : {t t′ : Table} → Later t t′ → {f g : List ℕ} → Derives (grammar (t .rules)) f g ↔ Derives (grammar (t′ .rules)) f g
+same-language : {t t′ : Table} → Later t t′ → {f g : List ℕ} → Derives (grammar (t .rules)) f g ↔ Derives (grammar (t′ .rules)) f g
 same-language {t} {t′} 𝓛 = (
   same-current (λ r c. let e = 𝓛 .on r (current-is (t .rules) r .0 c) in (r, current-is (t′ .rules) r .1 (ap (λ q. q .state) e ∙ current-is (t .rules) r .0 c), ap (λ q. q .left) e, ap (λ q. q .right) e)),
   same-current (λ r c. let e = 𝓛 .back r (current-is (t′ .rules) r .0 c) in (r, current-is (t .rules) r .1 (ap (λ q. q .state) e ∙ current-is (t′ .rules) r .0 c), ap (λ q. q .left) e, ap (λ q. q .right) e)),

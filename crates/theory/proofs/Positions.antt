@@ -1,20 +1,20 @@
 -- What holds of the links at a position of a parse, on every table in form: they are links of the graph, and all links of the graph
 -- from earlier positions are there. Saturation, a later table and the shift to the next position keep it. Assumes nothing.
 use mathlib.Core.Path.{_≡_, refl, sym, _∙_, ap, subst}
-use mathlib.Core.Logic.{_↔_, _≢_, _⊎_, inl, inr, ⊎-elim}
-use mathlib.Core.List.{List, [], _∷_, List·Memᴰ as In, List·Memᴰ·not-nil}
+use mathlib.Core.Logic.{inl, inr, ⊎-elim}
+use mathlib.Core.List.{List, [], List·Memᴰ as In, List·Memᴰ·not-nil}
 use Prim.Native.Nat.{ℕ, zero, suc, _≤_, _<_}
 use native.Mathlib.Decide.{ℕ-discrete}
 use native.Mathlib.Omega.{arith}
-use lib.Dec.{T, eqb}
+use lib.Dec.{eqb}
 use lib.ListN.{length, getD}
 use Rattle.laws.specs.Lists.{firstIn}
 use Rattle.theory.specs.Derivation.{Grammar}
 use Rattle.theory.specs.Items.{Automaton}
-use Rattle.theory.specs.Table.{EXPANDED, Table, noTransition, ruleAt, setAt, grammar, automaton}
+use Rattle.theory.specs.Table.{EXPANDED, Table, noTransition, setAt, grammar, automaton}
 use Rattle.theory.specs.Graph as graph
 use Rattle.theory.specs.Form.{InForm}
-use Rattle.theory.specs.Parse.{Link, link, nodesAt}
+use Rattle.theory.specs.Parse.{Link, link}
 use Rattle.theory.specs.Steps.{Linked, Noded, Path, Saturated, Shifted}
 use Rattle.theory.specs.Steps.Linked.{given, reduced}
 use Rattle.theory.specs.Steps.Noded.{root, source}
