@@ -1,22 +1,21 @@
 -- `parsing` does the steps of specs/Steps.antt, on every table in form, made or not. The turns are enough: each turn but the last
 -- expands a set of a node here, and such a set stays expanded. Assumes nothing.
 use mathlib.Core.Path.{_≡_, refl, sym, _∙_, ap, subst}
-use mathlib.Core.Logic.{_↔_, _≢_, _⊎_, inl, inr, ⊎-elim}
-use mathlib.Core.Bool.{Bool, true, false, true≢false}
-use mathlib.Core.List.{List, [], _∷_, List·Memᴰ as In, List·Memᴰ·head as at-head, List·Memᴰ·tail as in-tail, List·Memᴰ·not-nil, List·Memᴰ·cases-cons, Memᴰ·cast}
+use mathlib.Core.Logic.{_↔_, _≢_, inl, inr, ⊎-elim}
+use mathlib.Core.Bool.{Bool}
+use mathlib.Core.List.{List, [], _∷_, List·Memᴰ as In, List·Memᴰ·not-nil, List·Memᴰ·cases-cons, Memᴰ·cast}
 use Prim.Native.Nat.{ℕ, zero, suc, _+_, _≤_, _<_, zero-le}
-use native.Mathlib.Nat.{le-refl}
 use native.Mathlib.Decide.{ℕ-discrete, decLt}
 use native.Mathlib.Omega.{arith}
 use lib.Dec.{T, eqb, ltb, ltb→lt, lt→ltb}
-use lib.ListN.{length, getD, List·getD-eq-default}
+use lib.ListN.{length, List·getD-eq-default}
 use Rattle.laws.specs.Choice.{_and_, when}
 use Rattle.laws.specs.Lists.{someIn, firstIn, upFrom, addNew, Distinct}
 use Rattle.laws.specs.Lists.Distinct.{none, one-more}
 use Rattle.laws.proofs.Choice.{when-cases}
 use Rattle.laws.proofs.Tests.{and-both, eqb-iff}
 use Rattle.laws.proofs.Lists.{some-in, first-in, in-up, in-add, distinct-add, add-length, add-same}
-use Rattle.theory.specs.Table.{UNEXPANDED, EXPANDED, Table, SetPlace, freeSet, ruleAt, setAt, target, automaton, Reach}
+use Rattle.theory.specs.Table.{UNEXPANDED, EXPANDED, Table, SetPlace, freeSet, setAt, target, Reach}
 use Rattle.theory.specs.Expansion.{expand}
 use Rattle.theory.specs.Parse.{Link, link, sameLink, nodesAt, saturate, lowestUnexpanded, Settled, settled, settle, Outcome, outcome, shifts, accepting, turns, parsing}
 use Rattle.theory.specs.Steps.{Saturated, Lowest, Ready, Shifted, Steps}
