@@ -44,3 +44,7 @@ pub mod History
 pub mod Rules
 pub mod ParseCall
 pub mod Demand2
+pub mod AddExact
+pub mod Generation
+pub mod Demand3
+pub mod Counted
