@@ -35,6 +35,7 @@ pub mod OneOutcome
 pub mod Grounded
 pub mod Steps
 pub mod Checks
+pub mod FormKept
 pub mod LaterLinks
 pub mod Positions
 pub mod Ends
