@@ -42,4 +42,5 @@ pub mod Answers
 pub mod History
 pub mod Rules
 pub mod ParseCall
+pub mod NoSets
 pub mod Demand2
