@@ -53,6 +53,21 @@ module _ {G H : Grammar} {K : Items} (𝓐 : Agree G H K) where
     );
   }
 
+module _ {G H : Grammar} {K : Items} (S : SameExpansion G H K) where
+  pub same-flip : SameExpansion H G K
+  same-flip = record {
+    leads = λ x r d. (S .leads x r d .1, S .leads x r d .0);
+    reduces = λ r. (S .reduces r .1, S .reduces r .0);
+    accepts = (S .accepts .1, S .accepts .0);
+  }
+
+  pub same-trans : {I : Grammar} → SameExpansion H I K → SameExpansion G I K
+  same-trans S′ = record {
+    leads = λ x r d. (λ m. S′ .leads x r d .0 (S .leads x r d .0 m), λ m. S .leads x r d .1 (S′ .leads x r d .1 m));
+    reduces = λ r. (λ m. S′ .reduces r .0 (S .reduces r .0 m), λ m. S .reduces r .1 (S′ .reduces r .1 m));
+    accepts = (λ m. S′ .accepts .0 (S .accepts .0 m), λ m. S .accepts .1 (S′ .accepts .1 m));
+  }
+
 -- a set that is as it was, over kernels that are, is still the fresh expansion of its kernel
 pub carry : (t t′ : Table) (s : ℕ) → Agree (grammar (t .rules)) (grammar (t′ .rules)) (automaton t .Kernel s) → setAt (t′ .sets) s ≡ setAt (t .sets) s
     → ((x v : ℕ) → automaton t .Goto s x v → setAt (t′ .sets) v .kernel ≡ setAt (t .sets) v .kernel)

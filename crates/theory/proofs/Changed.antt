@@ -117,11 +117,18 @@ module _ (t : Table) (𝓒 : Consistent t) (n : ℕ) (p : RulePlace) (𝓝 : Cha
         let q = rule-other r′ z in added c m nt (subst (λ p. T (eqb (p .state) CURRENT)) q cur) (ap (λ p. p .left) (sym q) ∙ e)
 
     -- where the rule was not current, nothing leaves the closure; where it is not any more, nothing enters it
-    pub closure-on : (ruleAt (t .rules) n .state ≢ CURRENT) → {r d : ℕ} → Closure (grammar (t .rules)) K r d → Closure (grammar rs′) K r d
+    closure-on : (ruleAt (t .rules) n .state ≢ CURRENT) → {r d : ℕ} → Closure (grammar (t .rules)) K r d → Closure (grammar rs′) K r d
     unfolding G H
     closure-on not-before (kernel k) = kernel k
     closure-on not-before (added {r′ = r′} c m nt cur e) =
         add-other (λ z. not-before (ap (λ r. ruleAt (t .rules) r .state) (sym z) ∙ current-is (t .rules) r′ .0 cur)) (closure-on not-before c) (next-on c m) nt cur e
+
+    -- a rule that becomes current enters the closure of an item before its left symbol
+    pub enters : ruleAt (t .rules) n .state ≢ CURRENT → p .state ≡ CURRENT → {r d : ℕ} → Closure (grammar (t .rules)) K r d → Next (grammar (t .rules)) r d (p .left)
+        → Closure (grammar rs′) K n zero
+    unfolding G H
+    enters not-before now c m =
+        added (closure-on not-before c) (next-on c m) (𝓝 .left) (current-is rs′ n .1 (ap (λ q. q .state) rule-n ∙ now)) (ap (λ q. q .left) rule-n)
 
     module _ (none : (r d : ℕ) → Closure (grammar (t .rules)) K r d → Next (grammar (t .rules)) r d (p .left) → ⊥) where
       not-n : {r d x r′ : ℕ} → Closure G K r d → Next G r d x → T (G .current r′) → G .left r′ ≡ x → r′ ≢ n

@@ -23,6 +23,7 @@ pub mod Consistent
 pub mod Keeping
 pub mod Changed
 pub mod Changes
+pub mod ChangeExact
 pub mod Accepted
 pub mod Derivation
 pub mod Spans
@@ -44,3 +45,7 @@ pub mod Rules
 pub mod ParseCall
 pub mod NoSets
 pub mod Demand2
+pub mod AddExact
+pub mod Counted
+pub mod Generation
+pub mod Demand3

@@ -14,3 +14,4 @@ pub mod Calls
 pub mod Made
 pub mod Answers
 pub mod Changes
+pub mod Room
