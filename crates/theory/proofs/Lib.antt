@@ -44,8 +44,8 @@ pub mod Answers
 pub mod History
 pub mod Rules
 pub mod ParseCall
+pub mod NoSets
 pub mod Demand2
 pub mod AddExact
 pub mod Generation
 pub mod Demand3
-pub mod Counted

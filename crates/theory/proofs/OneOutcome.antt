@@ -148,7 +148,8 @@ module _ {pool : ℕ} {t : Table} {p : ℕ} {m n : List Link} (f : Alike m n) (k
   both-accept i a e (accepts-at i′ a′ e′) = sym e ∙ ap (λ n. outcome 1 n t) k ∙ e′
   both-accept i a e (rejects-at never e′) = absurd (never _ (node-alike p f i) a)
 
-  both-reject : {o o′ : Outcome} → ((u : ℕ) → In u (nodesAt m p) → T (setAt (t .sets) u .accepts) → ⊥) → outcome 2 (length m) t ≡ o → After pool t p n [] o′ → o ≡ o′
+  both-reject : {o o′ : Outcome} → ((u : ℕ) → In u (nodesAt m p) → T (setAt (t .sets) u .accepts) → ⊥) → outcome 2 (length m) t ≡ o
+      → After pool t p n [] o′ → o ≡ o′
   both-reject never e (accepts-at i a e′) = absurd (never _ (node-alike p (turned f) i) a)
   both-reject never e (rejects-at never′ e′) = sym e ∙ ap (λ n. outcome 2 n t) k ∙ e′
 

@@ -131,7 +131,8 @@ module _ (pool p : ℕ) (line : List ℕ) (finish : Settled → Outcome)
       expanding : Settled
       expanding = when (expand t v .done) (settle k pool (expand t v .table) p m) (settled 20 (expand t v .table) m)
 
-      in-pool : ((t′ : Table) → InForm t′ → Grounded t′ p m → (done : List ℕ) → Expansions t′ done → length (t′ .sets) < k + length done → Steps pool t′ p m line (finish (settle k pool t′ p m)))
+      in-pool : ((t′ : Table) → InForm t′ → Grounded t′ p m → (done : List ℕ) → Expansions t′ done → length (t′ .sets) < k + length done
+          → Steps pool t′ p m line (finish (settle k pool t′ p m)))
           → length m ≤ pool → Steps pool t p ls line (finish (when (ltb v (length (t .sets))) expanding (settled 0 t m)))
       in-pool again h =
           when-cases Goes (ltb v (length (t .sets)))
@@ -206,17 +207,25 @@ module _ (pool : ℕ) where
   refused : (a : ℕ) (t : Table) (o : Outcome) → a ≢ 0 → outcome a 0 t ≡ when (eqb a 0) o (outcome a 0 t)
   refused a t o d = when-cases (λ o. outcome a 0 t ≡ o) (eqb a 0) (λ e. absurd (d (eqb-iff a 0 .0 (subst T (sym e) tt)))) (λ e. refl)
 
+  -- what `parsing` makes of a position that is settled
+  finish-end : ℕ → Settled → Outcome
+  finish-end p e =
+      when (eqb (e .answer) 0) (outcome (when (accepting (e .table) (e .links) p) 1 2) (length (e .links)) (e .table)) (outcome (e .answer) 0 (e .table))
+
+  finish-on : ℕ → ℕ → List ℕ → Settled → Outcome
+  finish-on p x w e =
+      let m = addNew sameLink (e .links) (shifts (e .table) (e .links) p x) in
+      let in-pool = when (ltb pool (length m)) (outcome 21 0 (e .table)) (parsing pool (e .table) (suc p) m w) in
+      when (eqb (e .answer) 0) (when (eqb (length m) (length (e .links))) (outcome 2 (length m) (e .table)) in-pool) (outcome (e .answer) 0 (e .table))
+
   -- `parsing` does the steps
   pub parsing-steps : (line : List ℕ) (t : Table) (p : ℕ) (ls : List Link) → InForm t → Grounded t p ls → Steps pool t p ls line (parsing pool t p ls line)
-  unfolding n when
+  unfolding n when finish-end finish-on
   parsing-steps [] t p ls 𝓕 𝓖 =
-      settle-steps pool p [] (λ e. when (eqb (e .answer) 0) (outcome (when (accepting (e .table) (e .links) p) 1 2) (length (e .links)) (e .table)) (outcome (e .answer) 0 (e .table)))
-      (λ a t m d. refused a t _ d) (λ t ls m 𝓕 𝓖 r. ended t p ls m r)
+      settle-steps pool p [] (finish-end p) (λ a t m d. refused a t _ d) (λ t ls m 𝓕 𝓖 r. ended t p ls m r)
       (turns t) t ls [] 𝓕 𝓖 (no-expansions t) (omega arith)
   parsing-steps (x ∷ w) t p ls 𝓕 𝓖 =
-      settle-steps pool p (x ∷ w) (λ e. when (eqb (e .answer) 0) (let m = addNew sameLink (e .links) (shifts (e .table) (e .links) p x) in
-      when (eqb (length m) (length (e .links))) (outcome 2 (length m) (e .table)) (when (ltb pool (length m)) (outcome 21 0 (e .table)) (parsing pool (e .table) (suc p) m w))) (outcome (e .answer) 0 (e .table)))
-      (λ a t m d. refused a t _ d)
+      settle-steps pool p (x ∷ w) (finish-on p x w) (λ a t m d. refused a t _ d)
       (λ t ls m 𝓕 𝓖 r. moved t p x ls m 𝓖 r w _ (λ 𝓖′. parsing-steps w t (suc p) (addNew sameLink m (shifts t m p x)) 𝓕 𝓖′))
       (turns t) t ls [] 𝓕 𝓖 (no-expansions t) (omega arith)
 
