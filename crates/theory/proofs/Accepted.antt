@@ -2,29 +2,28 @@
 use mathlib.Core.Path.{_≡_, refl, sym, _∙_, ap, subst}
 use mathlib.Core.Logic.{_↔_, _≢_, _⊎_, inl, inr, ⊎-elim}
 use mathlib.Core.Bool.{Bool, true, false}
-use mathlib.Core.List.{List, map, List·Memᴰ as In}
-use Prim.Native.Nat.{ℕ, suc, _≤_, _<_, zero-le}
+use mathlib.Core.List.{List}
+use Prim.Native.Nat.{ℕ, _≤_, _<_, zero-le}
 use native.Mathlib.Decide.{ℕ-discrete}
 use native.Mathlib.Omega.{arith}
 use lib.Dec.{T, eqb, ltb, leb}
 use lib.ListN.{length, length-map}
-use Rattle.laws.specs.Choice.{_and_, when}
-use Rattle.laws.specs.Lists.{someIn, firstIn, upFrom, sameList}
-use Rattle.laws.specs.Loops.{allBelow}
+use Rattle.laws.specs.Choice.{_and_}
+use Rattle.laws.specs.Lists.{upFrom, sameList}
 use Rattle.laws.proofs.Choice.{when-cases}
 use Rattle.laws.proofs.Tests.{and-both, eqb-iff, ltb-iff, leb-iff, all-below}
 use Rattle.laws.proofs.Lists.{first-in, some-in, in-up, same-list}
 use Rattle.symbols.specs.Symbol.{nonterminal, allOnRight, ruleAnswer}
 use Rattle.theory.specs.Table.{FREE, CURRENT, WITHDRAWN, RulePlace, Table, freeRule, ruleAt}
 use Rattle.theory.specs.Expansion.{freed, collected}
-use Rattle.theory.specs.Form.{InForm, RuleInForm, Named}
+use Rattle.theory.specs.Form.{RuleInForm, Named}
 use Rattle.theory.specs.Parse.{Outcome, outcome}
-use Rattle.theory.specs.Calls.{putRule, isRule, isFree, lowestRule, isThere, isFull, refused, addTo, addInForm, deleteFrom, deleteInForm}
+use Rattle.theory.specs.Calls.{putRule, isRule, isFree, lowestRule, isThere, isFull, addTo, addInForm, deleteFrom, deleteInForm}
 use Rattle.theory.specs.Changes.{CollectsFirst}
 use Rattle.theory.proofs.Symbols.{is-nonterminal}
 use Rattle.theory.proofs.Items.{named-inside}
 use Rattle.theory.proofs.Sets.{index-of, element-at}
-use Rattle.theory.proofs.Freed.{freed-or, used-stays, none-withdrawn}
+use Rattle.theory.proofs.Freed.{used-stays, none-withdrawn}
 use Rattle.theory.proofs.FormReach.{rule-form}
 use Rattle.theory.proofs.Consistent.{Consistent}
 use Rattle.theory.proofs.Keeping.{collected-consistent}

@@ -2,12 +2,11 @@
 -- same, and a set that is it stays so. Assumes nothing.
 use mathlib.Core.Path.{_≡_, refl, sym, _∙_, ap, subst}
 use mathlib.Core.Logic.{_↔_, _≢_}
-use mathlib.Core.List.{List, List·Memᴰ as In}
-use Prim.Native.Nat.{ℕ, suc, _<_}
+use mathlib.Core.List.{List·Memᴰ as In}
+use Prim.Native.Nat.{ℕ, _<_}
 use lib.Dec.{T, eqb}
 use lib.ListN.{length, getD}
 use Rattle.laws.specs.Lists.{firstIn}
-use Rattle.symbols.specs.Symbol.{START}
 use Rattle.theory.specs.Derivation.{Grammar}
 use Rattle.theory.specs.Items.{Items, Next, Closure, Moved, Expanded, SameExpansion}
 use Rattle.theory.specs.Items.Moved.{moved}

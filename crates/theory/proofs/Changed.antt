@@ -1,10 +1,10 @@
 -- What a change of one rule does to the rules, to the sets, and to their closures: a set without a transition on the rule's left symbol
 -- has no item before that symbol in its closure, so the rule never entered it. Assumes nothing.
 use mathlib.Core.Path.{_≡_, refl, sym, _∙_, ap, subst}
-use mathlib.Core.Logic.{_↔_, _≢_, _⊎_, inl, inr, ⊎-elim}
-use mathlib.Core.Bool.{Bool, true, false}
-use mathlib.Core.List.{List, [], _∷_, map, List·Memᴰ as In}
-use Prim.Native.Nat.{ℕ, zero, suc, _≤_, _<_}
+use mathlib.Core.Logic.{_≢_, _⊎_, ⊎-elim}
+use mathlib.Core.Bool.{Bool}
+use mathlib.Core.List.{List, [], map, List·Memᴰ as In}
+use Prim.Native.Nat.{ℕ, zero, _<_}
 use native.Mathlib.Decide.{ℕ-discrete}
 use native.Mathlib.Omega.{arith}
 use lib.Dec.{T, eqb}
@@ -20,7 +20,7 @@ use Rattle.theory.specs.Derivation.{Grammar}
 use Rattle.theory.specs.Items.{Items, Next, Closure, Expanded}
 use Rattle.theory.specs.Items.Closure.{kernel, added}
 use Rattle.theory.specs.Table.{FREE, CURRENT, EXPANDED, RulePlace, Transition, SetPlace, Table, freeRule, freeSet, unexpanded, ruleAt, setAt, item, grammar, automaton, startKernel}
-use Rattle.theory.specs.Form.{InForm, RuleInForm, Named, InUse}
+use Rattle.theory.specs.Form.{RuleInForm, Named, InUse}
 use Rattle.theory.specs.Calls.{touched, putRule}
 use Rattle.theory.proofs.Items.{current-is}
 use Rattle.theory.proofs.Sets.{used-inside}

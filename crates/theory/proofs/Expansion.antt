@@ -1,10 +1,10 @@
 -- A set that is filled as `expanded` fills it, with transitions to sets that have the moved kernels, is precisely the fresh expansion
 -- of its kernel. Assumes nothing.
-use mathlib.Core.Path.{_≡_, refl, sym, _∙_, ap, subst}
+use mathlib.Core.Path.{_≡_, sym, _∙_, ap, subst}
 use mathlib.Core.Logic.{_↔_, _≢_}
-use mathlib.Core.Bool.{Bool, true, false, not}
+use mathlib.Core.Bool.{Bool, not}
 use mathlib.Core.List.{List, List·Memᴰ as In}
-use Prim.Native.Nat.{ℕ, zero, suc, _≤_, _<_, zero-le}
+use Prim.Native.Nat.{ℕ, zero-le}
 use native.Mathlib.Omega.{arith}
 use lib.Dec.{T, eqb}
 use lib.ListN.{length}
@@ -14,10 +14,10 @@ use Rattle.laws.proofs.Tests.{and-both, eqb-iff}
 use Rattle.laws.proofs.Lists.{some-in, in-keep, in-up}
 use Rattle.symbols.specs.Symbol.{START}
 use Rattle.theory.specs.Items.{Closure, Expanded}
-use Rattle.theory.specs.Table.{RulePlace, Item, Transition, Table, ruleAt, setAt, item, noTransition, target, grammar, automaton}
+use Rattle.theory.specs.Table.{Item, Transition, Table, ruleAt, setAt, item, noTransition, target, grammar, automaton}
 use Rattle.theory.specs.Expansion.{closure, moved, symbols, completed, filled}
 use Rattle.theory.proofs.Symbols.{not-eqb}
-use Rattle.theory.proofs.Items.{Listed, closure-map, moved-map}
+use Rattle.theory.proofs.Items.{closure-map, moved-map}
 use Rattle.theory.proofs.Closure.{Ruled, Ranged, closure-ranged}
 use Rattle.theory.proofs.Kernels.{in-moved, in-symbols, is-completed, symbol-range}
 use Rattle.theory.proofs.Sets.{Holds}

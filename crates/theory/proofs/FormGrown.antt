@@ -12,11 +12,10 @@ use Rattle.laws.proofs.Choice.{when-cases}
 use Rattle.laws.proofs.Tests.{and-both, eqb-iff}
 use Rattle.laws.proofs.Lists.{some-in, in-keep}
 use Rattle.symbols.specs.Symbol.{START}
-use Rattle.theory.specs.Derivation.{Grammar}
 use Rattle.theory.specs.Items.{Items, Closure, Moved}
 use Rattle.theory.specs.Items.Closure.{kernel, added}
 use Rattle.theory.specs.Items.Moved.{moved as move}
-use Rattle.theory.specs.Table.{UNEXPANDED, RulePlace, Item, SetPlace, Table, Transition, unexpanded, ruleAt, setAt, item, grammar, Reach}
+use Rattle.theory.specs.Table.{UNEXPANDED, RulePlace, Item, SetPlace, Table, Transition, ruleAt, setAt, item, grammar, Reach}
 use Rattle.theory.specs.Expansion.{after, closure, moved, symbols, leading, completed, filled, collected, hasRoom, grown, Step, expand}
 use Rattle.theory.specs.Form.{Named, NamesCurrent, SetInForm, InForm}
 use Rattle.theory.proofs.Items.{Listed, keep-cong, current-is, closure-current, moved-current}

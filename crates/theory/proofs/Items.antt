@@ -1,16 +1,16 @@
 -- Items and lists of items: the tests as facts, every item of a table's rule places, and that a list which is kept from all items in
 -- order is told by what is in it. Assumes nothing.
 use mathlib.Core.Path.{_≡_, refl, sym, _∙_, ap, ap₂, subst}
-use mathlib.Core.Logic.{_↔_, _≢_, _⊎_, inl, inr, ⊎-elim}
+use mathlib.Core.Logic.{_↔_, _≢_}
 use mathlib.Core.Bool.{Bool, true, false}
-use mathlib.Core.List.{List, [], _∷_, map, List·Memᴰ as In, List·Memᴰ·head as here, List·Memᴰ·tail as there, List·Memᴰ·not-nil, Memᴰ·cast}
-use Prim.Native.Nat.{ℕ, zero, suc, _+_, _≤_, _<_, zero-le}
+use mathlib.Core.List.{List, [], _∷_, map, List·Memᴰ as In, List·Memᴰ·head as here, List·Memᴰ·tail as there, Memᴰ·cast}
+use Prim.Native.Nat.{ℕ, suc, _≤_, _<_, zero-le}
 use native.Mathlib.Decide.{decLt}
 use native.Mathlib.Omega.{arith}
 use lib.Dec.{T, eqb}
-use lib.ListN.{length, getD, List·getD-eq-default}
-use Rattle.laws.specs.Choice.{_and_, when}
-use Rattle.laws.specs.Lists.{consIf, someIn, keep, joinMap, upFrom}
+use lib.ListN.{length, List·getD-eq-default}
+use Rattle.laws.specs.Choice.{_and_}
+use Rattle.laws.specs.Lists.{consIf, keep, upFrom}
 use Rattle.laws.proofs.Tests.{and-both, eqb-iff, tests}
 use Rattle.laws.proofs.Lists.{some-in, in-keep, in-map, in-join, in-up}
 use Rattle.symbols.specs.Symbol.{START}

@@ -1,23 +1,21 @@
 -- Finding or making the sets that an expansion leads to: what stood stays, what is new is unexpanded with a kernel that no set had,
 -- and each symbol's transition leads to the set with its kernel. Assumes nothing.
-use mathlib.Core.Path.{_≡_, refl, sym, _∙_, ap, ap₂, subst}
-use mathlib.Core.Logic.{_↔_, _≢_, _⊎_, inl, inr, ⊎-elim}
-use mathlib.Core.Bool.{Bool, true, false}
+use mathlib.Core.Path.{_≡_, refl, sym, _∙_, ap, subst}
+use mathlib.Core.Logic.{_≢_, _⊎_, inl, inr, ⊎-elim}
 use mathlib.Core.List.{List, [], _∷_, map, List·Memᴰ as In, List·Memᴰ·head as here, List·Memᴰ·tail as there, List·Memᴰ·cases-cons, List·Memᴰ·not-nil}
-use Prim.Native.Nat.{ℕ, zero, suc, _+_, _≤_, _<_}
+use Prim.Native.Nat.{ℕ, _≤_}
 use native.Mathlib.Decide.{ℕ-discrete}
 use native.Mathlib.Omega.{arith}
 use lib.Dec.{T, eqb, ltb}
-use lib.ListN.{length, getD, set, length-set}
+use lib.ListN.{length, set, length-set}
 use lib.Seq.{getD-set-same, getD-set-other}
-use Rattle.laws.specs.Choice.{when}
 use Rattle.laws.specs.Lists.{keep, firstIn}
 use Rattle.laws.proofs.Choice.{when-cases}
 use Rattle.laws.proofs.Tests.{eqb-iff}
-use Rattle.theory.specs.Table.{FREE, UNEXPANDED, RulePlace, Item, Transition, SetPlace, freeSet, unexpanded, setAt, noTransition}
+use Rattle.theory.specs.Table.{FREE, RulePlace, Item, Transition, SetPlace, freeSet, unexpanded, setAt, noTransition}
 use Rattle.theory.specs.Form.{InUse}
 use Rattle.theory.specs.Expansion.{moved, setWith, lowestFree, freeSets, Found, found, Led, leading}
-use Rattle.theory.proofs.Sets.{Holds, positive, not-positive, used-inside, set-with, set-with-found, lowest-free, keep-fewer, length-yes, length-no, free-less, some-free}
+use Rattle.theory.proofs.Sets.{Holds, positive, not-positive, set-with, set-with-found, lowest-free, keep-fewer, length-yes, length-no, free-less, some-free}
 
 -- where a list of transitions leads on a symbol, 0 where it does not
 unfoldable pub lookup : List Transition → ℕ → ℕ

@@ -47,5 +47,7 @@ pub mod ParseCall
 pub mod NoSets
 pub mod Demand2
 pub mod AddExact
+pub mod Counted
+pub mod Room
 pub mod Generation
 pub mod Demand3

@@ -1,13 +1,12 @@
 -- What the class tests of symbols say. Assumes nothing.
-use mathlib.Core.Path.{_≡_}
-use mathlib.Core.Logic.{_↔_, _≢_, _⊎_, inl, inr, ⊎-elim}
-use mathlib.Core.Bool.{Bool, not}
+use mathlib.Core.Logic.{_↔_, _≢_, ⊎-elim}
+use mathlib.Core.Bool.{not}
 use mathlib.Core.List.{List}
 use Prim.Native.Nat.{ℕ, _≤_, _<_}
 use native.Mathlib.Omega.{arith}
 use lib.Dec.{T, eqb, leb, T-not, not-T}
 use lib.ListN.{length, getD}
-use Rattle.laws.specs.Choice.{_and_, _or_}
+use Rattle.laws.specs.Choice.{_and_}
 use Rattle.laws.proofs.Tests.{and-both, or-either, eqb-iff, leb-iff, all-below}
 use Rattle.symbols.specs.Symbol.{START, terminal, nonterminal, onRight, allOnRight}
 
