@@ -10,11 +10,10 @@ use lib.Dec.{T, leb, leb→le, le→leb}
 use lib.ListN.{length}
 use Rattle.laws.proofs.Choice.{when-cases}
 use Rattle.laws.proofs.Tests.{all-below}
-use Rattle.symbols.specs.Symbol.{terminal}
 use Rattle.theory.specs.Table.{UNEXPANDED, Table, setAt, Reach}
 use Rattle.theory.specs.Form.{InForm, inForm}
 use Rattle.theory.specs.Expansion.{expand}
-use Rattle.theory.specs.Parse.{Outcome, outcome, parsing}
+use Rattle.theory.specs.Parse.{Outcome, parsing}
 use Rattle.theory.specs.Calls.{refused, allTokens, parse}
 use Rattle.theory.proofs.Form.{in-form}
 use Rattle.theory.proofs.Derivation.{Tokens}

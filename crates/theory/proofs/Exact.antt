@@ -1,9 +1,9 @@
 -- What the executable steps of Parse make is what 01's words say: the nodes at a position, the ends of paths, the link to a node,
 -- the links of reductions and of shifts. A list of links that is closed under shifts and reductions holds the graph. Assumes nothing.
-use mathlib.Core.Path.{_≡_, refl, sym, _∙_, ap, subst, subst₂}
+use mathlib.Core.Path.{_≡_, refl, sym, _∙_, ap, subst₂}
 use mathlib.Core.Logic.{_↔_, _≢_, _⊎_, inl, inr, ⊎-elim}
 use mathlib.Core.Bool.{Bool, not}
-use mathlib.Core.List.{List, [], _∷_, map, List·Memᴰ as In, List·Memᴰ·head as at-head, List·Memᴰ·eq-of-singleton, List·Memᴰ·not-nil, Memᴰ·cast}
+use mathlib.Core.List.{List, [], map, List·Memᴰ as In, List·Memᴰ·head as at-head, List·Memᴰ·eq-of-singleton, List·Memᴰ·not-nil, Memᴰ·cast}
 use Prim.Native.Nat.{ℕ, zero, suc, _<_}
 use lib.Dec.{T, eqb, T-not, not-T, eqb-refl}
 use lib.ListN.{length, getD}
@@ -50,7 +50,7 @@ module _ {G : Grammar} {A : Automaton} {line : List ℕ} {ls : List Link}
     link-in (shift n h g) = shc _ _ _ (node-in n) h g
     link-in (reduce r n d p g) = rec _ _ r _ _ _ (node-in n) d (trail-in p) g
 
-    pub trail-in : {k i u j t : ℕ} → graph.Trail G A line k i u j t → TrailIn ls k i u j t
+    trail-in : {k i u j t : ℕ} → graph.Trail G A line k i u j t → TrailIn ls k i u j t
     trail-in here = here-in
     trail-in (down l p) = down-in (link-in l) (trail-in p)
 
@@ -100,13 +100,13 @@ in-nodesAt ls p {u} = (λ m. ⊎-elim base-to source-to (in-add eqb eqb-iff base
         let (n, t) = in-keep (λ l. eqb (l .i) p) ls .0 k in
         subst₂ (NodeIn ls) (eqb-iff (l .i) p .0 t) (sym e) (source-in n)
 
-pub trail-zero : {ls : List Link} {i u j t : ℕ} → TrailIn ls zero i u j t → (j ≡ i) × (t ≡ u)
+trail-zero : {ls : List Link} {i u j t : ℕ} → TrailIn ls zero i u j t → (j ≡ i) × (t ≡ u)
 trail-zero here-in = (refl, refl)
 
-pub trail-suc : {ls : List Link} {k i u j t : ℕ} → TrailIn ls (suc k) i u j t → (m : ℕ) × (v : ℕ) × In (link i u m v) ls × TrailIn ls k m v j t
+trail-suc : {ls : List Link} {k i u j t : ℕ} → TrailIn ls (suc k) i u j t → (m : ℕ) × (v : ℕ) × In (link i u m v) ls × TrailIn ls k m v j t
 trail-suc (down-in {m = m} {v = v} l p) = (m, v, l, p)
 
-pub in-ends : (ls : List Link) (k i u : ℕ) {n : Node} → In n (ends ls k i u) ↔ TrailIn ls k i u (n .at) (n .in-set)
+in-ends : (ls : List Link) (k i u : ℕ) {n : Node} → In n (ends ls k i u) ↔ TrailIn ls k i u (n .at) (n .in-set)
 in-ends ls zero i u {n} = (
   λ m. let e = List·Memᴰ·eq-of-singleton m in subst₂ (TrailIn ls zero i u) (sym (ap (λ n. n .at) e)) (sym (ap (λ n. n .in-set) e)) here-in,
   λ p. at-head (let q = trail-zero p in λ z. record { at = q .0 z; in-set = q .1 z }),
@@ -124,7 +124,7 @@ in-ends ls (suc k) i u {n} = (
     from : Link → Bool
     from l = eqb (l .i) i and eqb (l .s) u
 
-pub in-linkTo : (t : Table) (p x : ℕ) (n : Node) {l : Link} → In l (linkTo (t .sets) p x n) ↔ ((s : ℕ) × automaton t .Goto (n .in-set) x s × (l ≡ link p s (n .at) (n .in-set)))
+in-linkTo : (t : Table) (p x : ℕ) (n : Node) {l : Link} → In l (linkTo (t .sets) p x n) ↔ ((s : ℕ) × automaton t .Goto (n .in-set) x s × (l ≡ link p s (n .at) (n .in-set)))
 in-linkTo t p x n {l} = (
   λ m. ⊎-elim (λ (e, b). (s, (refl, not-zero s .0 b), e)) (λ m. absurd (List·Memᴰ·not-nil m)) (in-consIf (not (eqb s 0)) .0 m),
   λ (v, (g, d), e). in-consIf (not (eqb s 0)) .1 (inl (e ∙ ap (λ v. link p v (n .at) (n .in-set)) (sym g), not-zero s .1 (λ z. d (sym g ∙ z)))),

@@ -12,7 +12,7 @@ use Rattle.theory.specs.Table.Reach.{at-start, along}
 use Rattle.theory.specs.Form.{InForm}
 use Rattle.theory.specs.Expansion.{expand}
 use Rattle.theory.specs.Parse.{Link, nodesAt, Outcome}
-use Rattle.theory.specs.Steps.{Linked, Noded, Path, Saturated, Lowest, Ready, Shifted, Steps}
+use Rattle.theory.specs.Steps.{Linked, Noded, Path, Saturated, Lowest, Shifted, Steps}
 use Rattle.theory.specs.Steps.Linked.{given, reduced}
 use Rattle.theory.specs.Steps.Noded.{root, source}
 use Rattle.theory.specs.Steps.Path.{here, down}

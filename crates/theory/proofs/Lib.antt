@@ -26,22 +26,36 @@ pub mod Later
 pub mod Counting
 pub mod Counted
 pub mod Room
--- The steps of Parse.
+-- Derivation and the graph of links; the steps of Parse and what they keep.
 pub mod Derivation
+pub mod Spans
+pub mod Verdict
 pub mod Exact
 pub mod Saturation
+pub mod OneOutcome
 pub mod Grounded
 pub mod Steps
 pub mod Checks
--- The invariant of made tables; changes of the rules are exact; demand 3.
+pub mod FormKept
+pub mod LaterLinks
+pub mod Positions
+pub mod Ends
+pub mod Parsing
+-- The invariant of made tables, and the rules that the history left.
 pub mod Consistent
 pub mod Keeping
 pub mod Changed
 pub mod Changes
-pub mod ChangeExact
 pub mod Accepted
 pub mod History
 pub mod Rules
+-- Demand 2.
+pub mod Answers
+pub mod ParseCall
+pub mod NoSets
+pub mod Demand2
+-- Demand 3: changes of the rules are exact.
+pub mod ChangeExact
 pub mod AddExact
 pub mod Generation
 pub mod Demand3

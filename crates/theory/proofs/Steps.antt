@@ -1,22 +1,21 @@
 -- `parsing` does the steps of specs/Steps.antt, on every table in form, made or not. The turns are enough: each turn but the last
 -- expands a set of a node here, and such a set stays expanded. Assumes nothing.
 use mathlib.Core.Path.{_≡_, refl, sym, _∙_, ap, subst}
-use mathlib.Core.Logic.{_↔_, _≢_, _⊎_, inl, inr, ⊎-elim}
-use mathlib.Core.Bool.{Bool, true, false, true≢false}
-use mathlib.Core.List.{List, [], _∷_, List·Memᴰ as In, List·Memᴰ·head as at-head, List·Memᴰ·tail as in-tail, List·Memᴰ·not-nil, List·Memᴰ·cases-cons, Memᴰ·cast}
+use mathlib.Core.Logic.{_↔_, _≢_, inl, inr, ⊎-elim}
+use mathlib.Core.Bool.{Bool}
+use mathlib.Core.List.{List, [], _∷_, List·Memᴰ as In, List·Memᴰ·not-nil, List·Memᴰ·cases-cons, Memᴰ·cast}
 use Prim.Native.Nat.{ℕ, zero, suc, _+_, _≤_, _<_, zero-le}
-use native.Mathlib.Nat.{le-refl}
 use native.Mathlib.Decide.{ℕ-discrete, decLt}
 use native.Mathlib.Omega.{arith}
 use lib.Dec.{T, eqb, ltb, ltb→lt, lt→ltb}
-use lib.ListN.{length, getD, List·getD-eq-default}
+use lib.ListN.{length, List·getD-eq-default}
 use Rattle.laws.specs.Choice.{_and_, when}
 use Rattle.laws.specs.Lists.{someIn, firstIn, upFrom, addNew, Distinct}
 use Rattle.laws.specs.Lists.Distinct.{none, one-more}
 use Rattle.laws.proofs.Choice.{when-cases}
 use Rattle.laws.proofs.Tests.{and-both, eqb-iff}
 use Rattle.laws.proofs.Lists.{some-in, first-in, in-up, in-add, distinct-add, add-length, add-same}
-use Rattle.theory.specs.Table.{UNEXPANDED, EXPANDED, Table, SetPlace, freeSet, ruleAt, setAt, target, automaton, Reach}
+use Rattle.theory.specs.Table.{UNEXPANDED, EXPANDED, Table, SetPlace, freeSet, setAt, target, Reach}
 use Rattle.theory.specs.Expansion.{expand}
 use Rattle.theory.specs.Parse.{Link, link, sameLink, nodesAt, saturate, lowestUnexpanded, Settled, settled, settle, Outcome, outcome, shifts, accepting, turns, parsing}
 use Rattle.theory.specs.Steps.{Saturated, Lowest, Ready, Shifted, Steps}
@@ -132,7 +131,8 @@ module _ (pool p : ℕ) (line : List ℕ) (finish : Settled → Outcome)
       expanding : Settled
       expanding = when (expand t v .done) (settle k pool (expand t v .table) p m) (settled 20 (expand t v .table) m)
 
-      in-pool : ((t′ : Table) → InForm t′ → Grounded t′ p m → (done : List ℕ) → Expansions t′ done → length (t′ .sets) < k + length done → Steps pool t′ p m line (finish (settle k pool t′ p m)))
+      in-pool : ((t′ : Table) → InForm t′ → Grounded t′ p m → (done : List ℕ) → Expansions t′ done → length (t′ .sets) < k + length done
+          → Steps pool t′ p m line (finish (settle k pool t′ p m)))
           → length m ≤ pool → Steps pool t p ls line (finish (when (ltb v (length (t .sets))) expanding (settled 0 t m)))
       in-pool again h =
           when-cases Goes (ltb v (length (t .sets)))
@@ -207,17 +207,25 @@ module _ (pool : ℕ) where
   refused : (a : ℕ) (t : Table) (o : Outcome) → a ≢ 0 → outcome a 0 t ≡ when (eqb a 0) o (outcome a 0 t)
   refused a t o d = when-cases (λ o. outcome a 0 t ≡ o) (eqb a 0) (λ e. absurd (d (eqb-iff a 0 .0 (subst T (sym e) tt)))) (λ e. refl)
 
+  -- what `parsing` makes of a position that is settled
+  finish-end : ℕ → Settled → Outcome
+  finish-end p e =
+      when (eqb (e .answer) 0) (outcome (when (accepting (e .table) (e .links) p) 1 2) (length (e .links)) (e .table)) (outcome (e .answer) 0 (e .table))
+
+  finish-on : ℕ → ℕ → List ℕ → Settled → Outcome
+  finish-on p x w e =
+      let m = addNew sameLink (e .links) (shifts (e .table) (e .links) p x) in
+      let in-pool = when (ltb pool (length m)) (outcome 21 0 (e .table)) (parsing pool (e .table) (suc p) m w) in
+      when (eqb (e .answer) 0) (when (eqb (length m) (length (e .links))) (outcome 2 (length m) (e .table)) in-pool) (outcome (e .answer) 0 (e .table))
+
   -- `parsing` does the steps
   pub parsing-steps : (line : List ℕ) (t : Table) (p : ℕ) (ls : List Link) → InForm t → Grounded t p ls → Steps pool t p ls line (parsing pool t p ls line)
-  unfolding n when
+  unfolding n when finish-end finish-on
   parsing-steps [] t p ls 𝓕 𝓖 =
-      settle-steps pool p [] (λ e. when (eqb (e .answer) 0) (outcome (when (accepting (e .table) (e .links) p) 1 2) (length (e .links)) (e .table)) (outcome (e .answer) 0 (e .table)))
-      (λ a t m d. refused a t _ d) (λ t ls m 𝓕 𝓖 r. ended t p ls m r)
+      settle-steps pool p [] (finish-end p) (λ a t m d. refused a t _ d) (λ t ls m 𝓕 𝓖 r. ended t p ls m r)
       (turns t) t ls [] 𝓕 𝓖 (no-expansions t) (omega arith)
   parsing-steps (x ∷ w) t p ls 𝓕 𝓖 =
-      settle-steps pool p (x ∷ w) (λ e. when (eqb (e .answer) 0) (let m = addNew sameLink (e .links) (shifts (e .table) (e .links) p x) in
-      when (eqb (length m) (length (e .links))) (outcome 2 (length m) (e .table)) (when (ltb pool (length m)) (outcome 21 0 (e .table)) (parsing pool (e .table) (suc p) m w))) (outcome (e .answer) 0 (e .table)))
-      (λ a t m d. refused a t _ d)
+      settle-steps pool p (x ∷ w) (finish-on p x w) (λ a t m d. refused a t _ d)
       (λ t ls m 𝓕 𝓖 r. moved t p x ls m 𝓖 r w _ (λ 𝓖′. parsing-steps w t (suc p) (addNew sameLink m (shifts t m p x)) 𝓕 𝓖′))
       (turns t) t ls [] 𝓕 𝓖 (no-expansions t) (omega arith)
 

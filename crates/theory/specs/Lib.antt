@@ -8,8 +8,10 @@ pub mod Expansion
 pub mod Graph
 pub mod Parse
 pub mod Steps
+pub mod Size
 pub mod Form
 pub mod Calls
 pub mod Made
+pub mod Answers
 pub mod Changes
 pub mod Room
