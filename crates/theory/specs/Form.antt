@@ -91,14 +91,14 @@ ruleInForm p =
 abbrev pub setInForm : List RulePlace → List SetPlace → SetPlace → Bool
 setInForm rs ss p =
     let only-current = namesCurrent rs (p .kernel) in
+    let current = allIn (λ r. eqb (ruleAt rs r .state) CURRENT) (p .reductions) and allIn (λ a. namesCurrent rs (setAt ss (a .to) .kernel)) (p .transitions) in
     let bare = isNil (p .transitions) and isNil (p .reductions) and not (p .accepts) in
     leb (p .state) EXPANDED
     and allIn (λ i. ltb 0 (ruleAt rs (i .rule) .state) and leb (i .dot) (length (ruleAt rs (i .rule) .right))) (p .kernel)
     and allIn (λ r. ltb 0 (ruleAt rs r .state)) (p .reductions)
     and sameList (symbolsOf p) (keep (λ x. someIn (eqb x) (symbolsOf p)) (upFrom 1 127))
     and allIn (λ a. ltb 0 (setAt ss (a .to) .state) and ltb 0 (a .to)) (p .transitions)
-    and when only-current (allIn (λ r. eqb (ruleAt rs r .state) CURRENT) (p .reductions)
-    and allIn (λ a. namesCurrent rs (setAt ss (a .to) .kernel)) (p .transitions)) true
+    and when only-current current true
     and when (eqb (p .state) FREE) (isNil (p .kernel) and bare) true
     and when (eqb (p .state) UNEXPANDED) bare true
     and sameItems (p .kernel) (keep (hasItem (p .kernel)) (allItems (length rs)))

@@ -102,7 +102,7 @@ shifts t ls p x = joinMap (λ u. linkTo (t .sets) (suc p) x (node p u)) (nodesAt
 abbrev pub accepting : Table → List Link → ℕ → Bool
 accepting t ls p = someIn (λ u. setAt (t .sets) u .accepts) (nodesAt ls p)
 
--- More turns than a position can need: each turn but the last expands a set that stays expanded (theorem `settle-ends`)
+-- More turns than a position can need: each turn but the last expands a set that stays expanded (theorem `parsing-steps`)
 abbrev pub turns : Table → ℕ
 turns t = suc (length (t .sets))
 

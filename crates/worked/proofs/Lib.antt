@@ -1,0 +1,4 @@
+-- What the checker computed.
+pub mod Worked
+pub mod Shortcuts
+pub mod Unmade
