@@ -184,10 +184,13 @@ module _ (t : Table) (𝓒 : Consistent t) (x : ℕ) (w : List ℕ) where
           let z : ruleAt (collected t .rules) (lowestRule isFree (collected t .rules)) .state ≡ FREE = eqb-iff _ FREE .0 b in
           record {
             base = collected t;
-            which = inr (record {
-              none-free = λ r l y. no-free r l y;
-              none-equal = λ r y p q. none-has r (λ o. omega arith) p q;
-            }, refl);
+            which = inr (
+              record {
+                none-free = λ r l y. no-free r l y;
+                none-equal = λ r y p q. none-has r (λ o. omega arith) p q;
+              },
+              refl,
+            );
             consistent = collected-consistent t 𝓒;
             idle = λ y. omega arith;
             change = free-place (collected t) _ h a z (λ r d p q. let s = used-stays (t .rules) r d in
@@ -201,11 +204,11 @@ module _ (t : Table) (𝓒 : Consistent t) (x : ℕ) (w : List ℕ) where
           -- were none free after collection, every number would be current
           full : ((r : ℕ) → r < length (collected t .rules) → T (isFree (ruleAt (collected t .rules) r)) → ⊥) → ⊥
           full f = subst T some (all-below (length (t .rules)) (λ r. eqb (ruleAt (t .rules) r .state) CURRENT) .1 (λ r l.
-            let used : Named (collected t .rules) r = λ y. f r (omega (arith, length-map (t .rules) freed)) (eqb-iff _ FREE .1 y) in
-            let s = ap (λ p. p .state) (used-stays (t .rules) r used) in
-            let w = none-withdrawn (t .rules) r in
-            let h = rule-form t (𝓒 .form) r .states in
-            eqb-iff (ruleAt (t .rules) r .state) CURRENT .1 (omega arith)))
+              let used : Named (collected t .rules) r = λ y. f r (omega (arith, length-map (t .rules) freed)) (eqb-iff _ FREE .1 y) in
+              let s = ap (λ p. p .state) (used-stays (t .rules) r used) in
+              let w = none-withdrawn (t .rules) r in
+              let h = rule-form t (𝓒 .form) r .states in
+              eqb-iff (ruleAt (t .rules) r .state) CURRENT .1 (omega arith)))
 
     accepted : Goal (addTo t x w)
     unfolding Goal

@@ -93,7 +93,7 @@ module _ (t : Table) (𝓒 : Consistent t) (n : ℕ) (p : RulePlace) (𝓝 : Cha
   H = grammar rs′
 
   module _ (K : Items) (names : (r d : ℕ) → K r d → Named (t .rules) r) where
-    pub closure-named : {r d : ℕ} → Closure (grammar (t .rules)) K r d → Named (t .rules) r
+    closure-named : {r d : ℕ} → Closure (grammar (t .rules)) K r d → Named (t .rules) r
     closure-named (kernel k) = names _ _ k
     closure-named (added {r′ = r} c m nt cur e) = λ z. (let q = current-is (t .rules) r .0 cur in omega arith)
 
@@ -149,7 +149,7 @@ module _ (t : Table) (𝓒 : Consistent t) (n : ℕ) (p : RulePlace) (𝓝 : Cha
       back (kernel k) = kernel k
       back (added c m nt cur e) = let c₀ = back c in let m₀ = next-back c₀ m in add-before (not-n′ c₀ m₀ e) c₀ m₀ nt cur e
 
-      pub agree : Agree (grammar (t .rules)) (grammar rs′) K
+      agree : Agree (grammar (t .rules)) (grammar rs′) K
       unfolding G H
       agree = record {
         on = λ r d c. on c;
@@ -224,9 +224,9 @@ module _ (t : Table) (𝓒 : Consistent t) (n : ℕ) (p : RulePlace) (𝓝 : Cha
   pub agree-at : (s : ℕ) → ((a : Transition) → In a (setAt (t .sets) s .transitions) → a .on ≢ p .left) → setAt (t .sets) s .state ≡ EXPANDED
       → Agree (grammar (t .rules)) (grammar rs′) (automaton t .Kernel s)
   agree-at s g z = agree (automaton t .Kernel s) (kernel-named s) (λ r d c m.
-    let (v, h) = 𝓒 .fresh s z .made c m in
-    let (a, i, q, e) = goto-transition t s (p .left) v h in
-    g a i q)
+      let (v, h) = 𝓒 .fresh s z .made c m in
+      let (a, i, q, e) = goto-transition t s (p .left) v h in
+      g a i q)
 
   pub fresh-still : (s : ℕ) → Touched t (putRule t n p) (p .left) s → setAt ss′ s .state ≡ EXPANDED → Expanded (grammar rs′) (automaton (putRule t n p)) s
   fresh-still s (anew z l e) y = absurd (omega (arith, ap (λ q. q .state) (sym e) ∙ y))

@@ -20,11 +20,11 @@ all-one (suc n) zero a = refl
 all-one (suc n) (suc i) a = all-one n i a
 
 module _ (s r : ℕ) where
-  set-new : (u : ℕ) → u ≢ 0 → setAt (newTable s r .sets) u ≡ freeSet
+  pub set-new : (u : ℕ) → u ≢ 0 → setAt (newTable s r .sets) u ≡ freeSet
   set-new zero d = absurd (d refl)
   set-new (suc u) d = all-one (pred s) u freeSet
 
-  rule-new : (q : ℕ) → ruleAt (newTable s r .rules) q ≡ freeRule
+  pub rule-new : (q : ℕ) → ruleAt (newTable s r .rules) q ≡ freeRule
   rule-new q = all-one r q freeRule
 
   set-0 : (u : ℕ) → InUse (newTable s r .sets) u → u ≡ 0

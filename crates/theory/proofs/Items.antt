@@ -1,6 +1,6 @@
 -- Items and lists of items: the tests as facts, every item of a table's rule places, and that a list which is kept from all items in
 -- order is told by what is in it. Assumes nothing.
-use mathlib.Core.Path.{_≡_, refl, sym, _∙_, ap, ap₂, subst}
+use mathlib.Core.Path.{_≡_, refl, sym, _∙_, ap, ap₂}
 use mathlib.Core.Logic.{_↔_, _≢_}
 use mathlib.Core.Bool.{Bool, true, false}
 use mathlib.Core.List.{List, [], _∷_, map, List·Memᴰ as In, List·Memᴰ·head as here, List·Memᴰ·tail as there, Memᴰ·cast}
@@ -92,10 +92,6 @@ same-kernel n {k} {l} a b h =
     ∙ keep-cong (hasItem k) (hasItem l) (allItems n)
     (λ i m. (λ t. has-item l i .1 (h (i .rule) (i .dot) .0 (has-item k i .0 t)), λ t. has-item k i .1 (h (i .rule) (i .dot) .1 (has-item l i .0 t))))
     ∙ sym b
-
--- an ascending list holds items of the table's rule places only
-pub ascends-ranged : (n : ℕ) {k : List Item} → Ascends n k → (r d : ℕ) → In (item r d) k → (r < n) × (d < 8)
-ascends-ranged n {k} a r d m = in-all n .0 (in-keep (hasItem k) (allItems n) .0 (subst (In (item r d)) a m) .0)
 
 -- ---- rules that are current
 

@@ -50,7 +50,7 @@ module _ (rs : List RulePlace) (c : List Item) where
       then s (inl e) (inr (y, m, z, h)) = inr (y, there m, ap (λ p. p .state) (sym e) ∙ z, h)
       then s (inr (v, n, w, e)) (inr (y, m, z, h)) = absurd (let q = ap (λ p. p .state) (sym e) ∙ z in omega arith)
 
-  pub kept-holds : {xs : List ℕ} {k : List Item} {a b : List SetPlace} {s : ℕ} → Kept xs a b → Holds a k s → Holds b k s
+  kept-holds : {xs : List ℕ} {k : List Item} {a b : List SetPlace} {s : ℕ} → Kept xs a b → Holds a k s → Holds b k s
   kept-holds {s = s} f h = let e = f .stays s (h .used) in record {
     not-start = h .not-start;
     used = λ z. h .used (ap (λ p. p .state) (sym e) ∙ z);

@@ -1,4 +1,5 @@
--- The theorems.
+-- What is proved of the definitions, from the small to the large.
+-- Items and symbols; the executable closure and moved kernels are the inductive ones; sets found or made; expansion is fresh.
 pub mod Symbols
 pub mod Items
 pub mod Closure
@@ -7,6 +8,7 @@ pub mod Sets
 pub mod Leading
 pub mod Expansion
 pub mod Transitions
+-- Reach and collection; the form as a test and as facts, and that New, Collect, Restart and every expansion keep it.
 pub mod Reach
 pub mod Freed
 pub mod Form
@@ -16,20 +18,19 @@ pub mod FormNew
 pub mod FormCollected
 pub mod FormRestarted
 pub mod Carry
+pub mod Agreement
 pub mod Grown
 pub mod FormGrown
 pub mod Later
-pub mod Consistent
-pub mod Keeping
-pub mod Changed
-pub mod Changes
-pub mod ChangeExact
-pub mod Accepted
+-- The Room sentence.
+pub mod Counting
+pub mod Counted
+pub mod Room
+-- Derivation and the graph of links; the steps of Parse and what they keep.
 pub mod Derivation
 pub mod Spans
 pub mod Verdict
 pub mod Exact
-pub mod Counting
 pub mod Saturation
 pub mod OneOutcome
 pub mod Grounded
@@ -40,14 +41,21 @@ pub mod LaterLinks
 pub mod Positions
 pub mod Ends
 pub mod Parsing
-pub mod Answers
+-- The invariant of made tables, and the rules that the history left.
+pub mod Consistent
+pub mod Keeping
+pub mod Changed
+pub mod Changes
+pub mod Accepted
 pub mod History
 pub mod Rules
+-- Demand 2.
+pub mod Answers
 pub mod ParseCall
 pub mod NoSets
 pub mod Demand2
+-- Demand 3: changes of the rules are exact.
+pub mod ChangeExact
 pub mod AddExact
-pub mod Counted
-pub mod Room
 pub mod Generation
 pub mod Demand3

@@ -15,7 +15,7 @@ use Rattle.laws.proofs.Lists.{in-keep, in-map, in-up}
 use Rattle.laws.proofs.Tables.{length-tab}
 use Rattle.theory.specs.Items.{Moved}
 use Rattle.theory.specs.Items.Moved.{moved as move}
-use Rattle.theory.specs.Table.{FREE, UNEXPANDED, Item, SetPlace, Table, freeSet, setAt, item, grammar, automaton, Reach}
+use Rattle.theory.specs.Table.{FREE, Item, SetPlace, Table, freeSet, setAt, item, grammar, automaton, Reach}
 use Rattle.theory.specs.Form.{InForm, InUse}
 use Rattle.theory.specs.Expansion.{after, closure, moved, symbols, setWith, freeSets, freed, collected, missing, hasRoom, expand}
 use Rattle.theory.specs.Room.{Lacks, Many}
@@ -28,7 +28,7 @@ use Rattle.theory.proofs.FormReach.{set-form}
 use Rattle.theory.proofs.FormCollected.{collected-in-form}
 use Rattle.theory.proofs.Formed.{ruled, ranged, start-items, reach-used, reach-same, collected-or}
 use Rattle.theory.proofs.Carry.{same-expansion}
-use Rattle.theory.proofs.Keeping.{collected-agree}
+use Rattle.theory.proofs.Agreement.{collected-agree}
 use Rattle.theory.proofs.Later.{expand-cases, collected-later, reach-later}
 use Rattle.theory.proofs.Counting.{no-longer, same-length}
 use Rattle.theory.proofs.Counted.{kept-and-not, places, distinct-keep, distinct-append, distinct-map}
@@ -142,10 +142,13 @@ module _ (t : Table) (𝓕 : InForm t) (u : ℕ) where
           record { rule = r; dot = d; leads = n; none = λ s h f. set-with-found (t .sets) (onto x) s (kernel-has x s a (reach-used 𝓕 h) f) (eqb-iff _ 0 .0 b) },
       λ L.
           let a = is-ahead (L .leads) in
-          in-keep (λ x. eqb (with x) 0) ahead .1 (a, eqb-iff (with x) 0 .1 (elim (ℕ-discrete (with x) 0) [
-            | yes e ↦ e
-            | no d ↦ absurd (let h = set-with (t .sets) (onto x) d in L .none (with x) (reached (with x) (h .used)) (has-kernel x (with x) a h))
-          ])),
+          in-keep (λ x. eqb (with x) 0) ahead .1 (
+            a,
+            eqb-iff (with x) 0 .1 (elim (ℕ-discrete (with x) 0) [
+              | yes e ↦ e
+              | no d ↦ absurd (let h = set-with (t .sets) (onto x) d in L .none (with x) (reached (with x) (h .used)) (has-kernel x (with x) a h))
+            ]),
+          ),
     )
 
     lacking-many : Many (Lacks t u) (length lacking)
@@ -165,8 +168,7 @@ module _ (t : Table) (𝓕 : InForm t) (u : ℕ) where
     unfolding lacking with onto ahead
     room-here {a} {b} 𝓢 𝓧 =
         let e : length (inUse (t .sets)) ≡ a = many-one used-many 𝓢 in
-        let f : length lacking ≡ b = many-one lacking-many 𝓧 in
-        (
+        let f : length lacking ≡ b = many-one lacking-many 𝓧 in (
           λ r. let h = leb-iff (missing t u) (freeSets (t .sets)) .0 r in omega (arith, used-and-free (t .sets)),
           λ h. leb-iff (missing t u) (freeSets (t .sets)) .1 (omega (arith, used-and-free (t .sets))),
         )
@@ -282,8 +284,8 @@ module _ (t : Table) (𝓕 : InForm t) (u : ℕ) (h : Reach t u) where
   many-lacking = (_, many-same (lacks-back t 𝓕 h) (lacks-on t 𝓕 h) (lacking-many (collected t) (collected-in-form t 𝓕) u all-reached))
 
   -- "So it fails exactly when the sets reachable before it, and the kernels it leads to that none of them has, together outnumber the pool."
-  pub room-exact : setAt (t .sets) u .state ≡ UNEXPANDED → {a b : ℕ} → Many (Reach t) a → Many (Lacks t u) b → (expand t u .done ≡ false) ↔ (length (t .sets) < a + b)
-  room-exact v {a} {b} 𝓢 𝓧 = (
+  pub room-exact : {a b : ℕ} → Many (Reach t) a → Many (Lacks t u) b → (expand t u .done ≡ false) ↔ (length (t .sets) < a + b)
+  room-exact {a} {b} 𝓢 𝓧 = (
     expand-cases (λ e. e .done ≡ false → length (t .sets) < a + b) t u
         (λ r e. absurd (true≢false e)) (λ p r e. absurd (true≢false e))
         (λ p q e. elim (decLt (length (t .sets)) (a + b)) [ yes l ↦ l | no l ↦ absurd (subst T q (then .1 (omega (arith, size)))) ]),
