@@ -2,8 +2,8 @@
 use mathlib.Core.Path.{_≡_, refl, sym, ap, subst}
 use mathlib.Core.Logic.{_↔_}
 use mathlib.Core.Bool.{Bool, true, false, not}
-use mathlib.Core.List.{List, [], _∷_}
-use Prim.Native.Nat.{ℕ, _<_}
+use mathlib.Core.List.{List, [], _∷_, List·Memᴰ as In}
+use Prim.Native.Nat.{ℕ, _≤_, _<_}
 use native.Mathlib.Decide.{ℕ-discrete, decLt}
 use native.Mathlib.Omega.{arith}
 use lib.Dec.{T, T-not, not-T}
@@ -11,8 +11,8 @@ use lib.ListN.{length}
 use Rattle.laws.specs.Choice.{when}
 use Rattle.laws.proofs.Tests.{tests}
 use Rattle.laws.proofs.Lists.{all-in, same-list}
-use Rattle.theory.specs.Table.{FREE, RulePlace, SetPlace, Table, ruleAt, setAt}
-use Rattle.theory.specs.Form.{RuleInForm, SetInForm, InForm, isNil, ruleInForm, setInForm, inForm}
+use Rattle.theory.specs.Table.{FREE, UNEXPANDED, RulePlace, Item, Transition, SetPlace, Table, ruleAt, setAt}
+use Rattle.theory.specs.Form.{Current, NamesCurrent, RuleInForm, SetInForm, InForm, isNil, ruleInForm, setInForm, inForm}
 use Rattle.theory.proofs.Items.{same-items, named-inside}
 use Rattle.theory.proofs.Sets.{used-inside}
 
@@ -87,31 +87,26 @@ set-in-form rs ss p = (to, from)
         }
 
     from : SetInForm rs ss p → T (setInForm rs ss p)
-    from f = simp (clauses, tests) (
-      f .states,
-      (
-        λ i m. let (a, b) = f .items i m in (omega arith, b),
-        (
-          λ r m. let a = f .reductions r m in omega arith,
-          (
-            f .one-target,
-            (
-              λ a m. let (b, c) = f .targets a m in (omega arith, omega arith),
-              (
-                λ g. (f .current-reductions g, f .current-targets g),
-                (
-                  λ e. let q = f .unused e in (ap (λ q. q .kernel) q, (ap (λ q. q .transitions) q, (ap (λ q. q .reductions) q, ap (λ q. q .accepts) q))),
-                  (
-                    λ e. let q = f .bare e in (ap (λ q. q .transitions) q, (ap (λ q. q .reductions) q, ap (λ q. q .accepts) q)),
-                    (f .kernel-ascends, f .reductions-ascend),
-                  ),
-                ),
-              ),
-            ),
-          ),
-        ),
-      ),
-    )
+    from f = simp (clauses, tests) (f .states, (items, (reductions, (f .one-target, (targets, (current, (unused, (bare, (f .kernel-ascends, f .reductions-ascend)))))))))
+      where
+        items : (i : Item) → In i (p .kernel) → (0 < ruleAt rs (i .rule) .state) × (i .dot ≤ length (ruleAt rs (i .rule) .right))
+        items i m = let (a, b) = f .items i m in (omega arith, b)
+
+        reductions : (r : ℕ) → In r (p .reductions) → 0 < ruleAt rs r .state
+        reductions r m = let a = f .reductions r m in omega arith
+
+        targets : (a : Transition) → In a (p .transitions) → (0 < setAt ss (a .to) .state) × (0 < a .to)
+        targets a m = let (b, c) = f .targets a m in (omega arith, omega arith)
+
+        current : NamesCurrent rs (p .kernel)
+            → ((r : ℕ) → In r (p .reductions) → Current rs r) × ((a : Transition) → In a (p .transitions) → NamesCurrent rs (setAt ss (a .to) .kernel))
+        current g = (f .current-reductions g, f .current-targets g)
+
+        unused : p .state ≡ FREE → (p .kernel ≡ []) × ((p .transitions ≡ []) × ((p .reductions ≡ []) × (p .accepts ≡ false)))
+        unused e = let q = f .unused e in (ap (λ q. q .kernel) q, (ap (λ q. q .transitions) q, (ap (λ q. q .reductions) q, ap (λ q. q .accepts) q)))
+
+        bare : p .state ≡ UNEXPANDED → (p .transitions ≡ []) × ((p .reductions ≡ []) × (p .accepts ≡ false))
+        bare e = let q = f .bare e in (ap (λ q. q .transitions) q, (ap (λ q. q .reductions) q, ap (λ q. q .accepts) q))
 
 -- ---- the table
 
@@ -162,31 +157,14 @@ in-form t = (to, from)
         }
 
     from : InForm t → T (inForm t)
-    from f = simp (fails, rule-in-form, set-in-form, clauses, tests) (
-      f .some-sets,
-      (
-        f .few-sets,
-        (
-          f .some-rules,
-          (
-            f .few-rules,
-            (
-              f .rules,
-              (
-                omega (arith, f .start-used),
-                (
-                  f .start-kernel,
-                  (
-                    f .sets,
-                    (
-                      λ r l q m (a, (b, (c, d))). absurd (omega (arith, f .no-two-rules q r (λ z. omega arith) (λ z. omega arith) c d)),
-                      λ s l u m (a, (b, c)). absurd (omega (arith, f .no-two-kernels u s (λ z. omega arith) (λ z. omega arith) c)),
-                    ),
-                  ),
-                ),
-              ),
-            ),
-          ),
-        ),
-      ),
-    )
+    from f = simp (fails, rule-in-form, set-in-form, clauses, tests)
+        (f .some-sets, (f .few-sets, (f .some-rules, (f .few-rules, (f .rules, (used, (f .start-kernel, (f .sets, (no-rules, no-kernels)))))))))
+      where
+        used : 0 < setAt ss 0 .state
+        used = omega (arith, f .start-used)
+
+        no-rules : (r : ℕ) → r < length rs → (q : ℕ) → q < r → AlikeRules q r → ⊥
+        no-rules r l q m (a, (b, (c, d))) = omega (arith, f .no-two-rules q r (λ z. omega arith) (λ z. omega arith) c d)
+
+        no-kernels : (s : ℕ) → s < length ss → (u : ℕ) → u < s → AlikeKernels u s → ⊥
+        no-kernels s l u m (a, (b, c)) = omega (arith, f .no-two-kernels u s (λ z. omega arith) (λ z. omega arith) c)

@@ -34,7 +34,7 @@ kept-numbers f i n = keep-cong f (λ x. someIn (eqb x) (keep f (upFrom i n))) (u
   λ t. let (y, a, e) = some-in (eqb x) (keep f (upFrom i n)) .0 t in subst (λ y. T (f y)) (sym (eqb-iff x y .0 e)) (in-keep f (upFrom i n) .0 a .1),
 ))
 
--- and in any case rules in use, with dots within length
+-- the items of a closure name rules in use where those of the kernel do, and a moved dot is within length
 module _ (rs : List RulePlace) {K : Items} (f : (r d : ℕ) → K r d → Named rs r) where
   closure-named : {r d : ℕ} → Closure (grammar rs) K r d → Named rs r
   closure-named (kernel k) = f _ _ k

@@ -1,17 +1,18 @@
 -- "Shortcuts that go wrong": each of 01's five as a reader that takes it, all else being the model's, and a script on which it goes
 -- wrong. Assumes nothing.
-use mathlib.Core.Bool.{not}
-use mathlib.Core.List.{List, [], _∷_, _++_, map}
+use mathlib.Core.Bool.{Bool, not}
+use mathlib.Core.List.{List, [], _∷_, _++_}
 use Prim.Native.Nat.{ℕ, zero, suc}
 use lib.Dec.{eqb, ltb, leb}
-use lib.ListN.{length, set}
+use lib.ListN.{length}
 use Rattle.laws.specs.Choice.{_and_, when}
+use Rattle.laws.specs.Loops.{tab}
 use Rattle.laws.specs.Lists.{someIn, firstIn, addNew, joinMap}
 use Rattle.symbols.specs.Symbol.{START, ruleAnswer}
-use Rattle.theory.specs.Table.{CURRENT, EXPANDED, RulePlace, SetPlace, Table, unexpanded, ruleAt, setAt, startKernel}
+use Rattle.theory.specs.Table.{CURRENT, WITHDRAWN, UNEXPANDED, EXPANDED, RulePlace, Item, Table, ruleAt, setAt}
 use Rattle.theory.specs.Expansion.{after, collected, expand}
 use Rattle.theory.specs.Parse.{Link, sameLink, nodesAt, ends, linkTo, saturate, lowestUnexpanded, Settled, settled, settle, Outcome, outcome, shifts, accepting, turns}
-use Rattle.theory.specs.Calls.{checked, refused, putRule, lowestRule, isThere, isFull, allTokens}
+use Rattle.theory.specs.Calls.{checked, refused, putRule, isRule, lowestRule, isThere, isFull, allTokens}
 use Rattle.worked.specs.Script.{Command, Line, Reader, real}
 use Rattle.worked.specs.Script.Command.{N, A, D, P}
 use Rattle.worked.specs.Script.Line.{says, C, K, S}
@@ -19,9 +20,12 @@ use Rattle.worked.specs.Cases.{rules}
 
 -- ---- "Giving a withdrawn number to another rule while a kept kernel names it."
 
+-- a withdrawn rule that is equal takes its own number back, and any other rule the lowest number that is not current
 abbrev takesWithdrawn : Table → ℕ → List ℕ → Outcome
 takesWithdrawn t x w =
-    let n = lowestRule (λ p. not (eqb (p .state) CURRENT)) (t .rules) in
+    let back = lowestRule (isRule WITHDRAWN x w) (t .rules) in
+    let other = lowestRule (λ p. not (eqb (p .state) CURRENT)) (t .rules) in
+    let n = when (ltb back (length (t .rules))) back other in
     outcome 0 n (putRule t n (record { state = CURRENT; left = x; right = w }))
 
 abbrev takingWithdrawn : Reader
@@ -36,20 +40,22 @@ takingWithdrawn = record {
 
 -- ---- "Making unexpanded only the sets whose kernel names the left symbol; it is the closure that matters."
 
-abbrev byKernel : List RulePlace → ℕ → List SetPlace → List SetPlace
-byKernel rs x ss =
-    let start = set ss 0 (unexpanded (startKernel rs)) in
-    let others = map (λ p. let q = unexpanded (p .kernel) in when (eqb (p .state) EXPANDED and someIn (λ i. eqb (after rs i) x) (p .kernel)) q p) ss in
-    when (eqb x START) start others
+abbrev names : List RulePlace → ℕ → List Item → Bool
+names rs x k = someIn (λ i. eqb (after rs i) x) k
 
--- the rule changes as in the model, the sets by their kernels
-abbrev keepingClosures : (Table → ℕ → List ℕ → Outcome) → Table → ℕ → List ℕ → Outcome
-keepingClosures call t x w =
-    let o = call t x w in
-    when (eqb (o .answer) 0) (outcome 0 (o .number) (record { rules = o .table .rules; sets = byKernel (o .table .rules) x (t .sets) })) o
+-- what the change of a rule of x made unexpanded stays as it was where its kernel does not name x; a START rule changes set 0 alone
+abbrev byKernel : ℕ → Table → Outcome → Outcome
+byKernel x t o =
+    outcome (o .answer) (o .number) (record {
+      rules = o .table .rules;
+      sets = tab (length (t .sets)) (λ s.
+          let p = setAt (t .sets) s in
+          let q = setAt (o .table .sets) s in
+          when (eqb (p .state) EXPANDED and eqb (q .state) UNEXPANDED and not (names (t .rules) x (p .kernel)) and not (eqb x START)) p q);
+    })
 
 abbrev lookingAtKernels : Reader
-lookingAtKernels = record { add = keepingClosures (real .add); delete = keepingClosures (real .delete); parse = real .parse }
+lookingAtKernels = record { add = λ t x w. byKernel x t (real .add t x w); delete = λ t x w. byKernel x t (real .delete t x w); parse = real .parse }
 
 -- ---- "Doing each node's reductions once. A link added later below it opens new paths."
 
@@ -121,7 +127,7 @@ testingEarly = record { add = real .add; delete = real .delete; parse = parseBy 
 -- ---- "Freeing at once what a change made unreachable"
 
 abbrev freed : Outcome → Outcome
-freed o = outcome (o .answer) (o .number) (record { rules = o .table .rules; sets = collected (o .table) .sets })
+freed o = when (eqb (o .answer) 0) (outcome 0 (o .number) (record { rules = o .table .rules; sets = collected (o .table) .sets })) o
 
 abbrev freeingAtOnce : Reader
 freeingAtOnce = record { add = λ t x w. freed (real .add t x w); delete = λ t x w. freed (real .delete t x w); parse = real .parse }
