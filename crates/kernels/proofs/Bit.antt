@@ -127,7 +127,7 @@ or-shl k w b h = ap (bitOr w) (shl-exact 1 b k (lit< tt) (omega arith) ∙ one-m
 pub put-lt : (k w b : ℕ) → w < 2 ^ k → b < k → putBit w b < 2 ^ k
 put-lt k w b h l = subst (λ x. x < 2 ^ k) (or-pow w b) (or-lt k w (2 ^ b) h (pow-lt l))
 
-bit-or : (a b j : ℕ) → bit (bitOr a b) j ≡ bitOr (bit a j) (bit b j)
+pub bit-or : (a b j : ℕ) → bit (bitOr a b) j ≡ bitOr (bit a j) (bit b j)
 unfolding bit
 bit-or a b j = ap (λ x. x % 2) (or-shr a b j) ∙ or-mod (a / 2 ^ j) (b / 2 ^ j) 1
 

@@ -3,5 +3,6 @@ pub mod Walk
 pub mod Bit
 pub mod Write
 pub mod Kernel
+pub mod Subset
 pub mod NextBit
 pub mod FindSet

@@ -3,6 +3,7 @@ use mathlib.Core.Path.{_≡_}
 use mathlib.Core.Bool.{Bool}
 use mathlib.Core.List.{List}
 use Prim.Native.Nat.{ℕ, _+_, _-_, _*_, _/_, _%_, _≤_, _<_}
+use lib.Bits.{bitOr}
 use lib.Dec.{eqb}
 use lib.ListN.{getD, set}
 use Rattle.laws.specs.Loops.{allBelow}
@@ -40,6 +41,10 @@ empty ws at = allBelow 16 (λ k. eqb (getD ws (at + k) 0) 0)
 -- the kernel at i of a is the kernel at j of b
 unfoldable pub same : List ℕ → ℕ → List ℕ → ℕ → Bool
 same a i b j = allBelow 16 (λ k. eqb (getD a (i + k) 0) (getD b (j + k) 0))
+
+-- every bit of the n words from i of a is set in the n words from j of b: they add none to those
+unfoldable pub within : List ℕ → ℕ → List ℕ → ℕ → ℕ → Bool
+within a i b j n = allBelow n (λ k. eqb (bitOr (getD a (i + k) 0) (getD b (j + k) 0)) (getD b (j + k) 0))
 
 -- the first of the sets 1, 2, .. below `sets` whose kernel is the kernel at `at` of key, or 0
 unfoldable pub find : List ℕ → ℕ → List ℕ → ℕ → ℕ

@@ -5,17 +5,17 @@
 // bit for each rule that it reduces. One space of bits serves both: bit i below 1024 is an item, bit 1024 + r a reduction.
 //
 // `has` and `put` touch one word. `next` looks at one word for every 64 bits that it passes, so a walk over all items costs
-// their number and 16 words. `clear`, `copy` and `count` pass over their words once; `equal` and `is_empty` stop at the first
+// their number and 16 words. `clear`, `copy` and `count` pass over their words once; `equal`, `within` and `is_empty` stop at the first
 // word that decides. `find` compares kernel after kernel, at most 16 words a set.
 //
 // No function tests a place when it runs: its contract asks that the words be there. Nothing here knows which rules are
 // current, nor how long they are. A test's contract is an equation with a test of specs/, so that a caller's `if` has that
-// test true or false; proofs/ says what it means (`same-iff`, `empty-iff`).
+// test true or false; proofs/ says what it means (`same-iff`, `within-iff`, `empty-iff`).
 ghost use mathlib.Core.Path.{_≡_};
 ghost use Prim.Native.Nat.{_+_, _*_, _/_, _≤_, _<_};
 ghost use lib.ListN.{length, getD};
 ghost use Rattle.kernels.specs.Write.{writeWords};
-ghost use Rattle.kernels.specs.Kernel.{holds, put, same, find, empty, items, Next};
+ghost use Rattle.kernels.specs.Kernel.{holds, put, same, within, find, empty, items, Next};
 
 pub mod word; // word.rt: the bits of one word
 
@@ -74,6 +74,21 @@ pub fn equal(a: &[u64], i: usize, b: &[u64], j: usize) -> bool
     let mut k = 0;
     while k < 16 {
         if a[i + k] != b[j + k] {
+            return false;
+        }
+        k += 1;
+    }
+    true
+}
+
+// Whether every bit of the n words from i of a is set in the n words from j of b.
+pub fn within(a: &[u64], i: usize, b: &[u64], j: usize, n: usize) -> bool
+    requires { ⌜ (i + n ≤ length (now a)) × (j + n ≤ length (now b)) ⌝ }
+    ensures { λ r. ⌜ r ≡ within (now (a .entry)) i (now (b .entry)) j n ⌝ }
+{
+    let mut k = 0;
+    while k < n {
+        if (a[i + k] | b[j + k]) != b[j + k] {
             return false;
         }
         k += 1;

@@ -15,12 +15,12 @@
 // What the contracts cite stands in specs/, a file for each of the files here; what follows from it in proofs/Rules.antt,
 // proofs/Answers.antt and proofs/Checks.antt.
 mod answer;
-mod rule_check;
 mod rule;
+mod rule_check;
 mod symbol;
 
 pub use answer::Answer;
+pub use rule::Rule;
 pub use rule_check::Checked;
 pub use rule_check::check_rule;
-pub use rule::Rule;
 pub use symbol::Symbol;

@@ -1,0 +1,4 @@
+-- What the contracts cite.
+pub mod Reach
+pub mod Sweep
+pub mod Room

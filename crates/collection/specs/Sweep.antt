@@ -1,0 +1,26 @@
+-- Collection's second half on the numbers: what is freed becomes zero. Assumes nothing.
+use mathlib.Core.List.{List}
+use Prim.Native.Nat.{ℕ, _+_, _*_, _≤_}
+use lib.Dec.{eqb}
+use lib.ListN.{length}
+use Rattle.laws.specs.Choice.{when}
+use Rattle.kernels.specs.Kernel.{holds}
+use Rattle.kernels.specs.Write.{writeWords}
+use Rattle.table.specs.Layout.{Sets, ruleNumber}
+
+-- the slices have row s
+pub record HasRow (s : ℕ) (x : Sets) : Type 0 where
+  pub cells : s * 128 + 128 ≤ length (x .cells)
+  pub words : s * 18 + 18 ≤ length (x .words)
+
+-- set s is free
+unfoldable pub freeRow : ℕ → Sets → Sets
+freeRow s x = record { cells = writeWords (x .cells) (s * 128) (λ k. 0) 128; words = writeWords (x .words) (s * 18) (λ k. 0) 18 }
+
+-- set s is free unless it is marked
+unfoldable pub freeUnmarked : List ℕ → ℕ → Sets → Sets
+freeUnmarked marks s x = when (holds marks 0 s) x (freeRow s x)
+
+-- rule number r is free if it was withdrawn
+unfoldable pub freeWithdrawn : ℕ → List ℕ → List ℕ
+freeWithdrawn r rs = when (eqb (ruleNumber rs r 0) 2) (writeWords rs (2 + r * 10) (λ k. 0) 10) rs

@@ -1,0 +1,5 @@
+-- What the contracts on lent tables cite.
+pub mod Layout
+pub mod Write
+pub mod Laid
+pub mod Becomes

@@ -1,0 +1,118 @@
+// The slice `rules`: the pools' sizes, then ten numbers for each rule.
+use symbols::Rule;
+use symbols::Symbol;
+ghost use mathlib.Core.Path.{_≡_};
+ghost use Prim.Native.Nat.{_+_, _*_, _<_, _≤_};
+ghost use lib.ListN.{length};
+ghost use Rattle.table.specs.Layout.{setsIn, rulesIn, ruleNumber};
+ghost use Rattle.table.specs.Write.{ruleIn, tenOf, putRule, putState};
+
+// How many sets the table has room for.
+pub fn sets_in(rules: &[u8]) -> usize
+    requires { ⌜ 2 ≤ length (now rules) ⌝ }
+    ensures { λ n. ⌜ n ≡ setsIn (now (rules .entry)) ⌝ }
+{
+    wide(rules[0])
+}
+
+// How many rules it has room for.
+pub fn rules_in(rules: &[u8]) -> usize
+    requires { ⌜ 2 ≤ length (now rules) ⌝ }
+    ensures { λ n. ⌜ n ≡ rulesIn (now (rules .entry)) ⌝ }
+{
+    wide(rules[1])
+}
+
+// The state of rule r: 0 free, 1 current, 2 withdrawn.
+pub fn state(rules: &[u8], r: usize) -> u8
+    requires { ⌜ 2 + r * 10 + 10 ≤ length (now rules) ⌝ }
+    ensures { λ x. ⌜ x ≡ ruleNumber (now (rules .entry)) r 0 ⌝ }
+{
+    rules[2 + r * 10]
+}
+
+// The left symbol of rule r.
+pub fn left(rules: &[u8], r: usize) -> usize
+    requires { ⌜ 2 + r * 10 + 10 ≤ length (now rules) ⌝ }
+    ensures { λ x. ⌜ x ≡ ruleNumber (now (rules .entry)) r 1 ⌝ }
+{
+    wide(rules[2 + r * 10 + 1])
+}
+
+// How many symbols the right side of rule r has.
+pub fn len(rules: &[u8], r: usize) -> usize
+    requires { ⌜ 2 + r * 10 + 10 ≤ length (now rules) ⌝ }
+    ensures { λ x. ⌜ x ≡ ruleNumber (now (rules .entry)) r 2 ⌝ }
+{
+    wide(rules[2 + r * 10 + 2])
+}
+
+// Right place d of rule r, 0 beyond its length.
+pub fn right(rules: &[u8], r: usize, d: usize) -> usize
+    requires { ⌜ (2 + r * 10 + 10 ≤ length (now rules)) × (d < 7) ⌝ }
+    ensures { λ x. ⌜ x ≡ ruleNumber (now (rules .entry)) r (3 + d) ⌝ }
+{
+    wide(rules[2 + r * 10 + (3 + d)])
+}
+
+// Rule r as a record, whatever its state.
+pub fn rule(rules: &[u8], r: usize) -> Rule
+    requires { ⌜ 2 + r * 10 + 10 ≤ length (now rules) ⌝ }
+    ensures { λ x. ⌜ x ≡ ruleIn (now (rules .entry)) r ⌝ }
+{
+    let at = 2 + r * 10;
+    let places = [
+        Symbol(rules[at + 3]),
+        Symbol(rules[at + 4]),
+        Symbol(rules[at + 5]),
+        Symbol(rules[at + 6]),
+        Symbol(rules[at + 7]),
+        Symbol(rules[at + 8]),
+        Symbol(rules[at + 9]),
+    ];
+    Rule {
+        left: Symbol(rules[at + 1]),
+        len: rules[at + 2],
+        right: places,
+    }
+}
+
+// Writes the ten numbers of rule r.
+pub fn put_rule(rules: &mut [u8], r: usize, state: u8, x: Rule)
+    requires { ⌜ 2 + r * 10 + 10 ≤ length (now rules) ⌝ }
+    ensures { λ _. ⌜ now (rules .exit) ≡ putRule (now (rules .entry)) r state x ⌝ }
+{
+    let at = 2 + r * 10;
+    let mut k: usize = 0;
+    while k < 10 {
+        rules[at + k] = number(state, x, k);
+        k += 1;
+    }
+}
+
+// Number k of the ten that a rule has.
+fn number(state: u8, x: Rule, k: usize) -> u8
+    requires { ⌜ k < 10 ⌝ }
+    ensures { λ n. ⌜ n ≡ tenOf state x k ⌝ }
+{
+    match k {
+        0 => state,
+        1 => x.left.0,
+        2 => x.len,
+        _ => x.at(k - 3).0,
+    }
+}
+
+// Rule r becomes current, withdrawn or free by its state alone.
+pub fn put_state(rules: &mut [u8], r: usize, state: u8)
+    requires { ⌜ 2 + r * 10 + 10 ≤ length (now rules) ⌝ }
+    ensures { λ _. ⌜ now (rules .exit) ≡ putState (now (rules .entry)) r state ⌝ }
+{
+    rules[2 + r * 10] = state;
+}
+
+pub fn wide(x: u8) -> usize
+    ensures { λ n. ⌜ n ≡ x ⌝ }
+{
+    x as usize
+}
