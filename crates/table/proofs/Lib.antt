@@ -1,7 +1,8 @@
--- Laws of lent tables: what the model reads from a view, rules and rows written, loops over rows, and that no second list of numbers fits.
+-- Laws of lent tables, by what they speak of.
 pub mod Once
 pub mod Read
 pub mod RuleNumbers
 pub mod Rows
+pub mod SameKernel
 pub mod Formed
 pub mod OneOutcome

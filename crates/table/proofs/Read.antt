@@ -2,7 +2,7 @@
 use mathlib.Core.List.{List, List·Memᴰ as In}
 use mathlib.Core.Path.{_≡_, refl, sym, ap, _∙_}
 use mathlib.Core.Logic.{_↔_, _⊎_, inl, inr}
-use Prim.Native.Nat.{ℕ, _+_, _*_, _≤_, _<_}
+use Prim.Native.Nat.{ℕ, _+_, _*_, _≤_, _<_, zero-le}
 use native.Mathlib.Decide.{ℕ-discrete}
 use native.Mathlib.Omega.{arith}
 use lib.Dec.{T, eqb}
@@ -41,7 +41,7 @@ pub reductions-read : (n : ℕ) (x : Sets) (s r : ℕ) → In r (reductionsSeen 
 unfolding reductionsSeen
 reductions-read n x s r = (
   λ m. let (a, b) = in-keep (λ r. eqb (bitOf x s (1024 + r)) 1) (upFrom 0 n) .0 m in let (p, q) = in-up 0 n .0 a in (omega arith, eqb-iff _ 1 .0 b),
-  λ (p, e). in-keep (λ r. eqb (bitOf x s (1024 + r)) 1) (upFrom 0 n) .1 (in-up 0 n .1 (Prim.Native.Nat.zero-le, omega arith), eqb-iff _ 1 .1 e),
+  λ (p, e). in-keep (λ r. eqb (bitOf x s (1024 + r)) 1) (upFrom 0 n) .1 (in-up 0 n .1 (zero-le, omega arith), eqb-iff _ 1 .1 e),
 )
 
 -- a target, as Parse looks it up

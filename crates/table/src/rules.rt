@@ -1,4 +1,4 @@
-// The slice `rules`: the pools' sizes, then ten numbers for each rule.
+// The slice of rules: the pools' sizes, then ten numbers for each rule number.
 use symbols::Rule;
 use symbols::Symbol;
 ghost use mathlib.Core.Path.{_≡_};
@@ -6,6 +6,13 @@ ghost use Prim.Native.Nat.{_+_, _*_, _<_, _≤_};
 ghost use lib.ListN.{length};
 ghost use Rattle.table.specs.Layout.{setsIn, rulesIn, ruleNumber};
 ghost use Rattle.table.specs.Write.{ruleIn, tenOf, putRule, putState};
+
+// "A number is current, withdrawn or free." 0 is also the mark of a set that is free.
+pub const FREE: u8 = 0;
+
+pub const CURRENT: u8 = 1;
+
+pub const WITHDRAWN: u8 = 2;
 
 // How many sets the table has room for.
 pub fn sets_in(rules: &[u8]) -> usize
@@ -23,7 +30,7 @@ pub fn rules_in(rules: &[u8]) -> usize
     wide(rules[1])
 }
 
-// The state of rule r: 0 free, 1 current, 2 withdrawn.
+// The state of rule r.
 pub fn state(rules: &[u8], r: usize) -> u8
     requires { ⌜ 2 + r * 10 + 10 ≤ length (now rules) ⌝ }
     ensures { λ x. ⌜ x ≡ ruleNumber (now (rules .entry)) r 0 ⌝ }
@@ -103,7 +110,7 @@ fn number(state: u8, x: Rule, k: usize) -> u8
     }
 }
 
-// Rule r becomes current, withdrawn or free by its state alone.
+// Writes the state of rule r and leaves the rule there. A number becomes free by `put_rule` with zeros.
 pub fn put_state(rules: &mut [u8], r: usize, state: u8)
     requires { ⌜ 2 + r * 10 + 10 ≤ length (now rules) ⌝ }
     ensures { λ _. ⌜ now (rules .exit) ≡ putState (now (rules .entry)) r state ⌝ }
@@ -111,6 +118,7 @@ pub fn put_state(rules: &mut [u8], r: usize, state: u8)
     rules[2 + r * 10] = state;
 }
 
+// A byte as an index or a count.
 pub fn wide(x: u8) -> usize
     ensures { λ n. ⌜ n ≡ x ⌝ }
 {

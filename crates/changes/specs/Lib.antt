@@ -1,0 +1,3 @@
+-- What the contracts on changes cite.
+pub mod Touch
+pub mod Change

@@ -1,0 +1,99 @@
+// "every expanded set with a transition on the left symbol becomes unexpanded. For a START rule it is set 0 alone, whose kernel
+// also changes."
+use symbols::Symbol;
+ghost use mathlib.Core.Path.{_≡_};
+ghost use Prim.Native.Nat.{_+_, _*_, _<_, _≤_};
+ghost use lib.ListN.{length};
+ghost use Rattle.table.specs.Layout.{sets};
+ghost use Rattle.table.specs.Laid.{Sized};
+ghost use Rattle.changes.specs.Touch.{Room, unexpand, unexpandIf, unexpandAll, starts, putStart, startAgain, touchedBy};
+
+// The state of a rule number that is current.
+const CURRENT: u8 = 1;
+
+// The mark of a set that is unexpanded.
+pub const UNEXPANDED: u8 = 1;
+
+// What a change of a rule of `left` touches becomes unexpanded.
+pub fn touch(rules: &[u8], cells: &mut [u8], words: &mut [u64], left: usize)
+    requires { ⌜ left < 128 ⌝ }
+    requires { ⌜ Sized (now rules) (sets (now cells) (now words)) ⌝ }
+    ensures { λ _. ⌜ sets (now (cells .exit)) (now (words .exit)) ≡ touchedBy (now (rules .entry)) left (sets (now (cells .entry)) (now (words .entry))) ⌝ }
+{
+    if left == Symbol::START.0 as usize {
+        start_again(rules, cells, words);
+    } else {
+        unexpand_all(cells, words, table::sets_in(rules), left);
+    }
+}
+
+// Every one of n sets with a transition on `left` becomes unexpanded.
+fn unexpand_all(cells: &mut [u8], words: &mut [u64], n: usize, left: usize)
+    requires { ⌜ (n < 256) × (left < 128) ⌝ }
+    requires { ⌜ (n * 128 ≤ length (now cells)) × (n * 18 ≤ length (now words)) ⌝ }
+    ensures { λ _. ⌜ sets (now (cells .exit)) (now (words .exit)) ≡ unexpandAll n left (sets (now (cells .entry)) (now (words .entry))) ⌝ }
+{
+    let mut s: usize = 0;
+    while s < n {
+        unexpand_if(cells, words, left, s);
+        s += 1;
+    }
+}
+
+// Set s becomes unexpanded if it has a transition on `left`. The mark need not be looked at: the row of a set that is not expanded
+// is zero.
+fn unexpand_if(cells: &mut [u8], words: &mut [u64], left: usize, s: usize)
+    requires { ⌜ (s < 256) × (left < 128) ⌝ }
+    requires { ⌜ Room s (sets (now cells) (now words)) ⌝ }
+    ensures { λ _. ⌜ sets (now (cells .exit)) (now (words .exit)) ≡ unexpandIf left s (sets (now (cells .entry)) (now (words .entry))) ⌝ }
+{
+    if table::target(cells, s, left) != 0 {
+        unexpand(cells, words, s);
+    }
+}
+
+// Set s becomes unexpanded: mark 1, no target, no reduction.
+pub fn unexpand(cells: &mut [u8], words: &mut [u64], s: usize)
+    requires { ⌜ s < 256 ⌝ }
+    requires { ⌜ Room s (sets (now cells) (now words)) ⌝ }
+    ensures { λ _. ⌜ sets (now (cells .exit)) (now (words .exit)) ≡ unexpand s (sets (now (cells .entry)) (now (words .entry))) ⌝ }
+{
+    super::clear(cells, s * 128, 128);
+    cells[s * 128] = UNEXPANDED;
+    kernels::clear(words, s * 18 + 16, 2);
+}
+
+// Set 0 becomes unexpanded, and its kernel every current START rule with dot 0.
+fn start_again(rules: &[u8], cells: &mut [u8], words: &mut [u64])
+    requires { ⌜ Sized (now rules) (sets (now cells) (now words)) ⌝ }
+    ensures { λ _. ⌜ sets (now (cells .exit)) (now (words .exit)) ≡ startAgain (now (rules .entry)) (sets (now (cells .entry)) (now (words .entry))) ⌝ }
+{
+    super::clear(cells, 0, 128);
+    cells[0] = UNEXPANDED;
+    kernels::clear(words, 0, 18);
+    let n = table::rules_in(rules);
+    let mut r: usize = 0;
+    while r < n {
+        put_start(rules, words, r);
+        r += 1;
+    }
+}
+
+// Puts rule r with dot 0 into set 0's kernel, if it is a current rule of START.
+fn put_start(rules: &[u8], words: &mut [u64], r: usize)
+    requires { ⌜ (r < 128) × (16 ≤ length (now words)) ⌝ }
+    requires { ⌜ 2 + r * 10 + 10 ≤ length (now rules) ⌝ }
+    ensures { λ _. ⌜ now (words .exit) ≡ putStart (now (rules .entry)) r (now (words .entry)) ⌝ }
+{
+    if starts(rules, r) {
+        kernels::put(words, 0, r * 8);
+    }
+}
+
+// Whether rule r is a current rule of START.
+fn starts(rules: &[u8], r: usize) -> bool
+    requires { ⌜ 2 + r * 10 + 10 ≤ length (now rules) ⌝ }
+    ensures { λ b. ⌜ b ≡ starts (now (rules .entry)) r ⌝ }
+{
+    table::state(rules, r) == CURRENT && table::left(rules, r) == Symbol::START.0 as usize
+}

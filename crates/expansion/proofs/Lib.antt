@@ -1,0 +1,11 @@
+-- The laws.
+pub mod Rest
+pub mod Missing
+pub mod Lead
+pub mod Copied
+pub mod Closed
+pub mod RowTransitions
+pub mod Filled
+pub mod Tried
+pub mod Twice
+pub mod Promises

@@ -1,0 +1,65 @@
+-- `expansion::room::missing` meets its contract. The invariant: n of the symbols below `from` lead to a kernel that no set has. Assumes nothing.
+use Prim.Native.Nat.{_-_}
+use native.Mathlib.Omega.{arith}
+use Rattle.expansion.proofs.Rest.{least}
+use Rattle.expansion.proofs.Missing.{Counted, count-start, count-above, count-turn, count-end}
+use borrow.Author.Needs.{needs}
+use Rattle.expansion.proofs.room.missing.Statement.{statement}
+use Rattle.expansion.proofs.room.missing.Tie as tie
+
+abbrev Inv-loop : tie.InvT-loop
+Inv-loop rules words closure symbols n₀ from₀ n from = Counted rules words closure symbols from n
+
+abbrev μ-loop : tie.MeasureT-loop
+μ-loop rules words closure symbols n₀ from₀ n from = 128 - from
+
+loop-holds : tie.Need-loop-holds Inv-loop μ-loop
+loop-holds c = count-start _ _ _ _ (c .before .before .pre .1)
+
+slice-aggregate-next : tie.Need-slice-aggregate-next Inv-loop μ-loop
+slice-aggregate-next c = search needs
+
+next-requires : tie.Need-next-requires Inv-loop μ-loop
+next-requires c κs = search needs
+
+enum-known-x : tie.Need-enum-known-x Inv-loop μ-loop
+enum-known-x c = search needs
+
+enum-told : tie.Need-enum-told Inv-loop μ-loop
+enum-told c = search needs
+
+returns : tie.Need-returns Inv-loop μ-loop
+returns c = count-end _ _ _ _ (c .before .before .before .before .before .before .before .pre .1) (c .before .before .before .before .loop .inv) (c .enum-told .given .1) (c .before .before .next .ensures)
+
+one-if-missing-requires : tie.Need-one-if-missing-requires Inv-loop μ-loop
+one-if-missing-requires c κs = (c .before .before .before .before .before .before .before .before .pre .0 .0, c .before .before .before .before .before .before .before .before .pre .0 .1, c .before .before .before .before .before .before .before .before .pre .0 .2, count-above _ _ _ _ (c .before .before .before .before .before .before .before .before .pre .1) (c .before .before .before .before .before .loop .inv) (c .before .x .given .1) (c .before .before .before .next .ensures))
+
+add-n : tie.Need-add-n Inv-loop μ-loop
+add-n c = omega (arith, c .before .before .before .before .before .before .loop .inv .inside, c .before .before .before .before .before .before .loop .inv .small, c .one-if-missing .ensures .small)
+
+add-from : tie.Need-add-from Inv-loop μ-loop
+add-from c = omega (arith, least _ (c .before .before .before .before .before .before .loop .from) (c .before .before .x .given .1) (c .before .before .before .before .next .ensures) .inside)
+
+loop-less : tie.Need-loop-less Inv-loop μ-loop
+loop-less c = let l = least _ (c .before .before .before .before .before .before .loop .from) (c .before .before .x .given .1) (c .before .before .before .before .next .ensures) in omega (arith, l .inside, l .above)
+
+loop-again : tie.Need-loop-again Inv-loop μ-loop
+loop-again c = count-turn _ _ _ _ (c .before .before .before .before .before .before .before .before .before .pre .1) (c .before .before .before .before .before .before .loop .inv) (c .before .before .x .given .1) (c .before .before .before .before .next .ensures) (c .one-if-missing .ensures)
+
+pub missing-spec : {M : Type 1} → statement M
+missing-spec =
+    tie.close
+    (tie.spec
+    Inv-loop
+    μ-loop
+    loop-holds
+    slice-aggregate-next
+    next-requires
+    enum-known-x
+    enum-told
+    returns
+    one-if-missing-requires
+    add-n
+    add-from
+    loop-less
+    loop-again)

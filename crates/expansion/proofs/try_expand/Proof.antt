@@ -1,0 +1,60 @@
+-- `expansion::try_expand` meets its contract. Assumes nothing.
+use native.Mathlib.Omega.{arith}
+use Rattle.expansion.proofs.Closed.{formed-rules, closed-words, closed-within}
+use Rattle.expansion.proofs.Tried.{has-room, tried-not, tried}
+use borrow.Author.Needs.{needs}
+use Rattle.expansion.proofs.try_expand.Statement.{statement}
+use Rattle.expansion.proofs.try_expand.Tie as tie
+
+closure-of-requires : tie.Need-closure-of-requires
+closure-of-requires c κs = (formed-rules _ (c .before .before .before .before .pre .formed), closed-words _ _ (c .before .before .before .before .pre), closed-within _ _ (c .before .before .before .before .pre))
+
+symbols-after-requires : tie.Need-symbols-after-requires
+symbols-after-requires c κs = (formed-rules _ (c .before .before .before .before .before .pre .formed), c .closure-of .ensures .within)
+
+missing-requires : tie.Need-missing-requires
+missing-requires c κs = ((formed-rules _ (c .before .before .before .before .before .before .before .pre .formed), c .before .before .closure-of .ensures .within, c .before .before .before .before .before .before .before .pre .formed .laid .sized .words), c .before .symbols-after .ensures)
+
+sets-in-requires : tie.Need-sets-in-requires
+sets-in-requires c κs = search needs
+
+free-sets-requires : tie.Need-free-sets-requires
+free-sets-requires c κs = omega (arith, c .sets-in .ensures, c .before .before .before .before .before .before .before .before .before .before .pre .formed .laid .sized .cells)
+
+same-length : tie.Need-same-length
+same-length c = search needs
+
+same-length-2 : tie.Need-same-length-2
+same-length-2 c = search needs
+
+returns : tie.Need-returns
+returns c = tried-not _ _ _ (record { is = c .before .before .before .before .before .before .before .before .before .before .before .before .pre; held = c .before .before .before .before .before .before .before .closure-of .ensures }) (c .before .before .before .before .missing .ensures) (c .before .before .sets-in .ensures) (c .before .free-sets .ensures) (omega arith)
+
+grow-requires : tie.Need-grow-requires
+grow-requires c κs = record { closed = record { is = c .before .before .before .before .before .before .before .before .before .before .before .before .before .before .pre; held = c .before .before .before .before .before .before .before .before .before .closure-of .ensures }; symbols = c .before .before .before .before .before .before .before .before .symbols-after .ensures; room = has-room _ _ _ (record { is = c .before .before .before .before .before .before .before .before .before .before .before .before .before .before .pre; held = c .before .before .before .before .before .before .before .before .before .closure-of .ensures }) (c .before .before .before .before .before .before .missing .ensures) (c .before .before .before .before .sets-in .ensures) (c .before .before .before .free-sets .ensures) (omega arith) }
+
+same-length-3 : tie.Need-same-length-3
+same-length-3 c = search needs
+
+same-length-4 : tie.Need-same-length-4
+same-length-4 c = search needs
+
+returns-2 : tie.Need-returns-2
+returns-2 c = tried _ _ (c .before .before .before .before .before .before .before .before .before .before .before .before .before .before .before .before .before .before .before .pre) (has-room _ _ _ (record { is = c .before .before .before .before .before .before .before .before .before .before .before .before .before .before .before .before .before .before .before .pre; held = c .before .before .before .before .before .before .before .before .before .before .before .before .before .before .closure-of .ensures }) (c .before .before .before .before .before .before .before .before .before .before .before .missing .ensures) (c .before .before .before .before .before .before .before .before .before .sets-in .ensures) (c .before .before .before .before .before .before .before .before .free-sets .ensures) (omega arith)) (c .before .before .before .before .grow .ensures)
+
+pub try-expand-spec : {M : Type 1} → statement M
+try-expand-spec =
+    tie.close
+    (tie.spec
+    closure-of-requires
+    symbols-after-requires
+    missing-requires
+    sets-in-requires
+    free-sets-requires
+    same-length
+    same-length-2
+    returns
+    grow-requires
+    same-length-3
+    same-length-4
+    returns-2)

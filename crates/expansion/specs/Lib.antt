@@ -1,0 +1,3 @@
+-- What the contracts on expansion cite.
+pub mod Expansion
+pub mod Inner

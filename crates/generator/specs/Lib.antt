@@ -1,0 +1,4 @@
+-- What the contracts of the calls cite.
+pub mod Find
+pub mod Calls
+pub mod Listing

@@ -1,0 +1,2 @@
+pub mod SameKernel
+pub mod Found

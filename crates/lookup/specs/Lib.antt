@@ -1,0 +1,2 @@
+-- What the contracts of the set numbers cite.
+pub mod Lookup

@@ -1,0 +1,8 @@
+-- The laws, in the order in which they build on each other.
+pub mod Decimal
+pub mod Reading
+pub mod Spaced
+pub mod Meaning
+pub mod Telling
+pub mod Putting
+pub mod Lines

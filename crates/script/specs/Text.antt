@@ -1,0 +1,58 @@
+-- Text as bytes: decimal numbers, and a command line as it is written. Assumes nothing.
+use mathlib.Core.Bool.{Bool, false}
+use mathlib.Core.Path.{_≡_}
+use mathlib.Core.List.{List, [], _∷_, _++_, List·Memᴰ as In}
+use Prim.Native.Nat.{ℕ, _+_, _/_, _%_, _≤_}
+use lib.Dec.{ltb, leb}
+use lib.ListN.{length, getD}
+use Rattle.laws.specs.Choice.{_and_, when}
+use Rattle.laws.specs.Lists.{joinMap}
+
+abbrev pub SPACE : ℕ
+SPACE = 32
+
+abbrev pub NEWLINE : ℕ
+NEWLINE = 10
+
+-- the digit of a number below ten
+abbrev pub digit : ℕ → ℕ
+digit n = 48 + n
+
+unfoldable pub isDigit : ℕ → Bool
+isDigit b = leb 48 b and leb b 57
+
+-- "decimal numbers 0 to 9999 without leading zeros": the digits of a number below 10,000
+unfoldable pub decimal : ℕ → List ℕ
+decimal n =
+    let one = digit (n % 10) ∷ [] in
+    let two = digit (n / 10 % 10) ∷ one in
+    let three = digit (n / 100 % 10) ∷ two in
+    let four = digit (n / 1000 % 10) ∷ three in
+    when (ltb n 10) one (when (ltb n 100) two (when (ltb n 1000) three four))
+
+-- "each after a single space"
+unfoldable pub spaced : List ℕ → List ℕ
+spaced ns = joinMap (λ n. SPACE ∷ decimal n) ns
+
+-- a text that is numbers, "each after a single space"
+pub record Numbered (text : List ℕ) (ns : List ℕ) : Type 0 where
+  pub is : text ≡ spaced ns
+  pub small : (n : ℕ) → In n ns → n ≤ 9999
+
+-- a text that starts with a number after a single space and goes on as `rest`, which does not start with a digit
+pub record Starts (text : List ℕ) (n : ℕ) (rest : List ℕ) : Type 0 where
+  pub is : text ≡ SPACE ∷ (decimal n ++ rest)
+  pub small : n ≤ 9999
+  pub ends : isDigit (getD rest 0 0) ≡ false
+
+-- "a capital letter"
+pub record Capital (letter : ℕ) : Type 0 where
+  pub from-a : 65 ≤ letter
+  pub to-z : letter ≤ 90
+
+-- "a capital letter, then decimal numbers 0 to 9999 without leading zeros, each after a single space", 256 numbers at most
+pub record Written (line : List ℕ) (letter : ℕ) (ns : List ℕ) : Type 0 where
+  pub capital : Capital letter
+  pub is : line ≡ letter ∷ spaced ns
+  pub small : (n : ℕ) → In n ns → n ≤ 9999
+  pub few : length ns ≤ 256
