@@ -25,9 +25,12 @@ pub record MayPut (m : Mem) (r state : ℕ) (x : Rule) : Type 0 where
 abbrev pub startUnexpanded : Table → Table
 startUnexpanded t = record { rules = t .rules; sets = set (t .sets) 0 (unexpanded (setAt (t .sets) 0 .kernel)) }
 
--- set 0 of m becomes unexpanded in n, whatever the rules with which the numbers are laid out
+abbrev pub withRules : List ℕ → Sets → Mem
+withRules rs x = record { rules = rs; sets = x }
+
+-- the sets' numbers x become y, in which set 0 is unexpanded, whatever the rules with which they are laid out
 abbrev pub StartUnexpanded : Sets → Sets → Type 0
-StartUnexpanded x y = (rs : List ℕ) → Laid (record { rules = rs; sets = x }) → Becomes (record { rules = rs; sets = x }) (record { rules = rs; sets = y }) (startUnexpanded (view (record { rules = rs; sets = x })))
+StartUnexpanded x y = (rs : List ℕ) → Laid (withRules rs x) → Becomes (withRules rs x) (withRules rs y) (startUnexpanded (view (withRules rs x)))
 
 -- the sizes are in range and the slices are as long as they need
 pub record Fits (m : Mem) (sets places : ℕ) : Type 0 where

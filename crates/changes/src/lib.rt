@@ -51,7 +51,7 @@ pub fn make(rules: &mut [u8], cells: &mut [u8], words: &mut [u64], sets: usize, 
     rules[0] = sets as u8;
     rules[1] = places as u8;
     clear(cells, 0, sets * 128);
-    cells[0] = touch::UNEXPANDED;
+    cells[0] = table::UNEXPANDED;
     kernels::clear(words, 0, sets * 18);
 }
 

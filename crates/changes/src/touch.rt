@@ -8,12 +8,6 @@ ghost use Rattle.table.specs.Layout.{sets};
 ghost use Rattle.table.specs.Laid.{Sized};
 ghost use Rattle.changes.specs.Touch.{Room, unexpand, unexpandIf, unexpandAll, starts, putStart, startAgain, touchedBy};
 
-// The state of a rule number that is current.
-const CURRENT: u8 = 1;
-
-// The mark of a set that is unexpanded.
-pub const UNEXPANDED: u8 = 1;
-
 // What a change of a rule of `left` touches becomes unexpanded.
 pub fn touch(rules: &[u8], cells: &mut [u8], words: &mut [u64], left: usize)
     requires { ⌜ left < 128 ⌝ }
@@ -59,7 +53,7 @@ pub fn unexpand(cells: &mut [u8], words: &mut [u64], s: usize)
     ensures { λ _. ⌜ sets (now (cells .exit)) (now (words .exit)) ≡ unexpand s (sets (now (cells .entry)) (now (words .entry))) ⌝ }
 {
     super::clear(cells, s * 128, 128);
-    cells[s * 128] = UNEXPANDED;
+    cells[s * 128] = table::UNEXPANDED;
     kernels::clear(words, s * 18 + 16, 2);
 }
 
@@ -69,7 +63,7 @@ fn start_again(rules: &[u8], cells: &mut [u8], words: &mut [u64])
     ensures { λ _. ⌜ sets (now (cells .exit)) (now (words .exit)) ≡ startAgain (now (rules .entry)) (sets (now (cells .entry)) (now (words .entry))) ⌝ }
 {
     super::clear(cells, 0, 128);
-    cells[0] = UNEXPANDED;
+    cells[0] = table::UNEXPANDED;
     kernels::clear(words, 0, 18);
     let n = table::rules_in(rules);
     let mut r: usize = 0;
@@ -95,5 +89,5 @@ fn starts(rules: &[u8], r: usize) -> bool
     requires { ⌜ 2 + r * 10 + 10 ≤ length (now rules) ⌝ }
     ensures { λ b. ⌜ b ≡ starts (now (rules .entry)) r ⌝ }
 {
-    table::state(rules, r) == CURRENT && table::left(rules, r) == Symbol::START.0 as usize
+    table::state(rules, r) == table::CURRENT && table::left(rules, r) == Symbol::START.0 as usize
 }

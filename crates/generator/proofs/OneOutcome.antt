@@ -1,19 +1,16 @@
--- No second outcome fits a call's promise: not another answer, not another number, not another list of numbers. Assumes nothing.
+-- No second outcome fits New's promise. (Of the other calls' `one-outcome` of `form` says it.) Assumes nothing.
 use mathlib.Core.List.{List}
 use mathlib.Core.Path.{_≡_, sym, ap, _∙_}
 use Prim.Native.Nat.{ℕ}
 use native.Mathlib.Decide.{ℕ-discrete}
 use lib.ListN.{length, getD}
 use lib.Seq.{ext-getD}
-use Rattle.theory.specs.Table.{Table}
-use Rattle.theory.specs.Parse.{Outcome}
 use Rattle.theory.specs.Calls.{newTable}
-use Rattle.table.specs.Layout.{Mem, view}
-use Rattle.table.specs.Becomes.{Promised}
+use Rattle.table.specs.Layout.{Mem}
 use Rattle.table.proofs.OneOutcome.{SameLengths, one-memory}
 use Rattle.generator.specs.Calls.{NewPromised}
 
--- equality of numbers and of lists as long as each other need not be decided by the form: it is refuted by no table and by every table
+-- numbers, and lists as long as each other, that cannot differ are equal
 stable : (a b : ℕ) → ((a ≡ b → ⊥) → ⊥) → a ≡ b
 stable a b h = elim (ℕ-discrete a b) [ yes e ↦ e | no d ↦ absurd (h d) ]
 
@@ -27,27 +24,13 @@ stable-memory a b l h =
     let w = stable-list (a .sets .words) (b .sets .words) (l .words) (λ d. h (λ q. d (ap (λ x. x .sets .words) q))) in
     λ i. record { rules = r i; sets = record { cells = c i; words = w i } }
 
--- what holds where a fact holds and where it fails, and is stable, holds
+-- what holds where a fact holds and where it fails cannot fail
 either : {P Q : Type 0} → (P → Q) → ((P → ⊥) → Q) → (Q → ⊥) → ⊥
 either f g d = d (g (λ p. d (f p)))
 
-module _ (call : Table → Outcome) (m n n′ : Mem) (a a′ k k′ : ℕ) (p : Promised call m n a k) (q : Promised call m n′ a′ k′) where
-  pub one-answer : a ≡ a′
-  one-answer = stable a a′ (either (λ f. p .answer f ∙ sym (q .answer f)) (λ g. p .no-table g .0 ∙ sym (q .no-table g .0)))
-
-  pub one-number : k ≡ k′
-  one-number = stable k k′ (either (λ f. p .number f ∙ sym (q .number f)) (λ g. p .no-table g .1 ∙ sym (q .no-table g .1)))
-
-  pub one-result : SameLengths n n′ → n ≡ n′
-  one-result l =
-      stable-memory n n′ l
-      (either (λ f. one-memory m n n′ (call (view m) .table) (p .table f) (q .table f) l) (λ g. p .no-table g .2 ∙ sym (q .no-table g .2)))
-
-module _ (m n n′ : Mem) (s r a a′ : ℕ) (p : NewPromised m n s r a) (q : NewPromised m n′ s r a′) where
-  pub one-new-answer : a ≡ a′
-  one-new-answer = stable a a′ (either (λ f. p .made f .0 ∙ sym (q .made f .0)) (λ g. p .bad-pool g .0 ∙ sym (q .bad-pool g .0)))
-
-  pub one-new-result : SameLengths n n′ → n ≡ n′
-  one-new-result l =
-      stable-memory n n′ l
-      (either (λ f. one-memory m n n′ (newTable s r) (p .made f .1) (q .made f .1) l) (λ g. p .bad-pool g .1 ∙ sym (q .bad-pool g .1)))
+pub one-outcome : {m n n′ : Mem} {s r a a′ : ℕ} → NewPromised m n s r a → NewPromised m n′ s r a′ → SameLengths n n′ → (n ≡ n′) × (a ≡ a′)
+one-outcome {m} {n} {n′} {s} {r} {a} {a′} p q l = (
+  stable-memory n n′ l
+      (either (λ f. one-memory m n n′ (newTable s r) (p .made f .1) (q .made f .1) l) (λ g. p .bad-pool g .1 ∙ sym (q .bad-pool g .1))),
+  stable a a′ (either (λ f. p .made f .0 ∙ sym (q .made f .0)) (λ g. p .bad-pool g .0 ∙ sym (q .bad-pool g .0))),
+)

@@ -25,7 +25,7 @@ use Rattle.table.specs.Laid.{FormedRules}
 use Rattle.table.specs.Write.{ruleIn}
 use Rattle.table.proofs.Read.{rule-read}
 use Rattle.table.proofs.RuleNumbers.{in-left, in-right}
-use Rattle.form.proofs.RuleForm.{form-well}
+use Rattle.table.proofs.Formed.{formed-well}
 use Rattle.generator.specs.Find.{hasState, isAt, lowest}
 use Rattle.generator.proofs.Lowest.{lowest-cong, all-cong}
 
@@ -81,7 +81,7 @@ module _ (rs : List ℕ) where
         short = f .laid .each-rule r l .short
 
         here : ruleNumber rs r 0 ≡ state → WellFormed (ruleIn rs r)
-        here e = form-well rs r (λ z. omega arith) (f .laid .each-rule r l) (f .form r l)
+        here e = formed-well rs r (λ z. omega arith) (f .laid .each-rule r l) (f .form r l)
 
         seen-state : ruleSeen rs r .state ≡ ruleNumber rs r 0
         seen-state = unfold ruleSeen in refl

@@ -28,7 +28,7 @@ pub fn add(rules: &mut [u8], cells: &mut [u8], words: &mut [u64], left: u8, righ
     if table::rules_in(rules) <= number {
         return add_later(rules, cells, words, rule);
     }
-    changes::put_rule(rules, cells, words, number, find::CURRENT, rule);
+    changes::put_rule(rules, cells, words, number, table::CURRENT, rule);
     Changed {
         answer,
         rule: number,
@@ -45,7 +45,7 @@ fn add_later(rules: &mut [u8], cells: &mut [u8], words: &mut [u64], rule: Rule) 
 {
     collection::collect(rules, cells, words);
     let number = find::lowest_free(rules);
-    changes::put_rule(rules, cells, words, number, find::CURRENT, rule);
+    changes::put_rule(rules, cells, words, number, table::CURRENT, rule);
     Changed {
         answer: Answer::Done,
         rule: number,
@@ -72,7 +72,7 @@ pub fn delete(
     if answer.number() != 0 {
         return Changed { answer, rule: 0 };
     }
-    changes::put_rule(rules, cells, words, number, find::WITHDRAWN, rule);
+    changes::put_rule(rules, cells, words, number, table::WITHDRAWN, rule);
     Changed {
         answer,
         rule: number,

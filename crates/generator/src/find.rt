@@ -17,13 +17,6 @@ pub struct Found {
     pub rule: Rule,
 }
 
-// A rule number's states.
-pub const FREE: u8 = 0;
-
-pub const CURRENT: u8 = 1;
-
-pub const WITHDRAWN: u8 = 2;
-
 // Checks a Delete: 12, 13, 14, 16. Done comes with the rule's number.
 pub fn check_delete(rules: &[u8], left: u8, right: &[u8]) -> Found
     requires { ⌜ FormedRules (now rules) ⌝ }
@@ -39,7 +32,7 @@ pub fn check_delete(rules: &[u8], left: u8, right: &[u8]) -> Found
             rule,
         };
     }
-    let number = find(rules, CURRENT, rule);
+    let number = find(rules, table::CURRENT, rule);
     if table::rules_in(rules) <= number {
         return Found {
             answer: Answer::NotThere,
@@ -70,7 +63,7 @@ pub fn check_add(rules: &[u8], left: u8, right: &[u8]) -> Found
             rule,
         };
     }
-    if find(rules, CURRENT, rule) < table::rules_in(rules) {
+    if find(rules, table::CURRENT, rule) < table::rules_in(rules) {
         return Found {
             answer: Answer::There,
             number: 0,
@@ -84,7 +77,7 @@ pub fn check_add(rules: &[u8], left: u8, right: &[u8]) -> Found
             rule,
         };
     }
-    let back = find(rules, WITHDRAWN, rule);
+    let back = find(rules, table::WITHDRAWN, rule);
     if back < table::rules_in(rules) {
         return Found {
             answer: Answer::Done,
@@ -131,7 +124,7 @@ pub fn lowest_free(rules: &[u8]) -> usize
     let n = table::rules_in(rules);
     let mut r: usize = 0;
     while r < n {
-        if table::state(rules, r) == FREE {
+        if table::state(rules, r) == table::FREE {
             return r;
         }
         r += 1;
@@ -147,7 +140,7 @@ fn is_full(rules: &[u8]) -> bool
     let n = table::rules_in(rules);
     let mut r: usize = 0;
     while r < n {
-        if table::state(rules, r) != CURRENT {
+        if table::state(rules, r) != table::CURRENT {
             return false;
         }
         r += 1;

@@ -20,7 +20,7 @@ pub fn is_expanded(cells: &[u8], s: usize) -> bool
     requires { ⌜ s * 128 + 128 ≤ length (now cells) ⌝ }
     ensures { λ r. ⌜ ByCells (now (cells .entry)) s (λ p. eqb (p .state) EXPANDED) r ⌝ }
 {
-    2 <= table::mark(cells, s)
+    table::EXPANDED <= table::mark(cells, s)
 }
 
 // Whether set s has the accept mark.
@@ -28,7 +28,7 @@ pub fn accepts(cells: &[u8], s: usize) -> bool
     requires { ⌜ s * 128 + 128 ≤ length (now cells) ⌝ }
     ensures { λ r. ⌜ ByCells (now (cells .entry)) s (λ p. p .accepts) r ⌝ }
 {
-    table::mark(cells, s) == 3
+    table::mark(cells, s) == table::ACCEPTING
 }
 
 // The target of set s on the symbol x, 0 where it has none.

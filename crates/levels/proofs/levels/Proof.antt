@@ -3,7 +3,6 @@ use mathlib.Core.Path.{_≡_, refl}
 use Prim.Native.Nat.{_≤_, _-_}
 use native.Mathlib.Omega.{arith}
 use lib.ListN.{length}
-use borrow.Author.Needs.{needs}
 use Rattle.levels.specs.Reached.{Reached}
 use Rattle.levels.proofs.Below.{reached-start, reached-next, reached-end}
 use Rattle.levels.proofs.levels.Statement.{statement}
@@ -16,7 +15,7 @@ abbrev μ-loop : tie.MeasureT-loop
 μ-loop buf work₀ nodes links n k l₀ i₀ work l i = k - i
 
 put-requires : tie.Need-put-requires Inv-loop μ-loop
-put-requires c κs = search needs
+put-requires c κs = omega arith
 
 loop-holds : tie.Need-loop-holds Inv-loop μ-loop
 loop-holds c = (omega arith, omega arith, refl, reached-start (c .before .before .before .before .before .before .args .work .now) _ (c .before .before .before .before .before .before .pre .1 .1) (c .before .before .before .before .before .before .pre .1 .0) (c .before .before .put .ensures))
@@ -25,10 +24,10 @@ under-requires : tie.Need-under-requires Inv-loop μ-loop
 under-requires c κs = (c .before .before .before .before .before .before .before .before .before .pre .0, ((omega (arith, c .before .before .loop .inv .2), c .before .before .loop .inv .1), c .before .before .loop .inv .3 .list))
 
 add-i : tie.Need-add-i Inv-loop μ-loop
-add-i c = search needs
+add-i c = omega arith
 
 loop-less : tie.Need-loop-less Inv-loop μ-loop
-loop-less c = search needs
+loop-less c = omega arith
 
 loop-again : tie.Need-loop-again Inv-loop μ-loop
 loop-again c = (omega arith, c .before .before .under .ensures .0, omega (arith, c .before .before .before .before .before .loop .inv .2), reached-next (c .before .before .before .before .before .loop .inv .3) (c .before .before .under .ensures .1))

@@ -2,7 +2,6 @@
 use mathlib.Core.Path.{_≡_, refl, _∙_}
 use native.Mathlib.Omega.{arith}
 use lib.ListN.{length}
-use borrow.Author.Needs.{needs}
 use Rattle.links.proofs.Chain.{walk-less, walk-room, node-inside}
 use Rattle.levels.proofs.Below.{Spreading, spread-start, under-low, spread-next, spread-end}
 use Rattle.levels.proofs.spread.Statement.{statement}
@@ -15,10 +14,10 @@ abbrev μ-loop : tie.MeasureT-loop
 μ-loop buf work₀ nodes links side count n c₀ k₀ work c k = k
 
 mul-number : tie.Need-mul-number Inv-loop μ-loop
-mul-number c = search needs
+mul-number c = omega arith
 
 add-number : tie.Need-add-number Inv-loop μ-loop
-add-number c = search needs
+add-number c = omega arith
 
 number-requires : tie.Need-number-requires Inv-loop μ-loop
 number-requires c κs = node-inside (c .before .before .pre .0) (c .before .before .pre .1 .0 .1 .1)

@@ -3,7 +3,6 @@ use mathlib.Core.Path.{_≡_, refl, _∙_}
 use Prim.Native.Nat.{_≤_, _-_}
 use native.Mathlib.Omega.{arith}
 use lib.ListN.{length}
-use borrow.Author.Needs.{needs}
 use Rattle.levels.proofs.Sparse.{few}
 use Rattle.levels.proofs.Below.{Going, go-start, node-low, go-next, go-end}
 use Rattle.levels.proofs.under.Statement.{statement}
@@ -16,28 +15,28 @@ abbrev μ-loop : tie.MeasureT-loop
 μ-loop buf work₀ nodes links from n side count₀ i₀ work count i = n - i
 
 sub-side : tie.Need-sub-side Inv-loop μ-loop
-sub-side c = search needs
+sub-side c = omega arith
 
 loop-holds : tie.Need-loop-holds Inv-loop μ-loop
 loop-holds c = ((omega arith, omega (arith, few (c .before .before .pre .1 .1), c .before .before .pre .0 .few), c .before .before .pre .1 .0 .1, refl), refl, go-start)
 
 mul-number : tie.Need-mul-number Inv-loop μ-loop
-mul-number c = search needs
+mul-number c = omega arith
 
 add-number : tie.Need-add-number Inv-loop μ-loop
-add-number c = search needs
+add-number c = omega arith
 
 number-requires : tie.Need-number-requires Inv-loop μ-loop
-number-requires c κs = search needs
+number-requires c κs = omega arith
 
 spread-requires : tie.Need-spread-requires Inv-loop μ-loop
 spread-requires c κs = (c .before .before .before .before .before .before .before .pre .0, ((c .before .before .before .before .loop .inv .1 ∙ c .before .before .before .before .before .before .before .pre .1 .0 .0, (omega arith, node-low (c .before .before .before .before .loop .inv .2) (c .before .before .before .loop-test .taken) (c .before .before .before .before .loop .inv .0 .1) (c .before .number .ensures) (c .before .before .before .before .before .before .before .pre .1 .1))), c .before .before .before .before .loop .inv .2 .made))
 
 add-i : tie.Need-add-i Inv-loop μ-loop
-add-i c = search needs
+add-i c = omega arith
 
 loop-less : tie.Need-loop-less Inv-loop μ-loop
-loop-less c = search needs
+loop-less c = omega arith
 
 loop-again : tie.Need-loop-again Inv-loop μ-loop
 loop-again c = ((omega arith, omega arith, omega arith, omega arith), omega (arith, c .before .before .before .before .before .before .before .loop .inv .1), go-next (c .before .before .before .before .before .before .before .loop .inv .2) (c .before .before .before .before .before .before .loop-test .taken) (c .before .before .before .before .before .before .before .loop .inv .0 .1) (c .before .before .before .before .number .ensures) (omega arith) (omega arith) (c .before .before .spread .ensures))

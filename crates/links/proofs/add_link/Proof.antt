@@ -2,7 +2,6 @@
 use mathlib.Core.Path.{ap, _∙_, refl}
 use native.Mathlib.Omega.{arith}
 use lib.ListN.{length}
-use borrow.Author.Needs.{needs}
 use Rattle.laws.proofs.Choice.{tells-yes, tells-no}
 use Rattle.links.proofs.Chain.{node-room-new, chained}
 use Rattle.links.proofs.Stored.{node-length}
@@ -14,10 +13,10 @@ node-of-requires : tie.Need-node-of-requires
 node-of-requires c κs = let h = c .before .before .before .before .pre .0 .core in ((omega (arith, h .node-room, h .room), omega (arith, h .wide, h .few-sets)), h .found)
 
 same-length : tie.Need-same-length
-same-length c = search needs
+same-length c = omega arith
 
 same-length-2 : tie.Need-same-length-2
-same-length-2 c = search needs
+same-length-2 c = omega arith
 
 returns : tie.Need-returns
 returns c =
@@ -43,10 +42,10 @@ add-t24 : tie.Need-add-t24
 add-t24 c = omega (arith, c .before .before .before .before .before .before .before .before .before .before .before .before .before .before .before .before .before .before .before .before .pre .0 .core .fits, c .before .before .before .before .before .before .before .before .before .before .before .before .before .before .before .before .before .before .before .before .pre .0 .core .few)
 
 same-length-3 : tie.Need-same-length-3
-same-length-3 c = search needs
+same-length-3 c = omega arith
 
 same-length-4 : tie.Need-same-length-4
-same-length-4 c = search needs
+same-length-4 c = omega arith
 
 returns-2 : tie.Need-returns-2
 returns-2 c = adds-by (put-after _ _ _ (c .before .before .before .before .before .before .put-link .ensures) (c .before .before .before .before .before .before .before .before .before .before .put-node .ensures)) (c .before .before .put .ensures) (free-linked _ (c .before .before .before .before .before .before .before .before .before .before .before .before .before .before .before .before .before .before .before .before .pre .0) _ _ (c .before .before .before .before .before .before .before .before .before .before .before .before .before .before .before .before .before .before .before .before .pre .1 .0) (c .before .before .before .before .before .before .before .before .before .before .before .before .before .before .before .node-of .ensures .none (c .before .before .before .before .before .before .before .before .before .before .before .before .before .before .if1 .taken)) (c .before .before .before .before .before .before .before .before .before .before .before .before .before .before .before .before .before .before .before .before .pre .1 .1) (let h = c .before .before .before .before .before .before .before .before .before .before .before .before .before .before .before .before .before .before .before .before .pre .0 .core .fits in omega (arith, c .before .before .before .before .before .before .before .before .before .before .before .before .if2 .left)))
@@ -57,10 +56,10 @@ has-link-requires c κs =
     (chained (start .pre .0 .core), found-in (c .before .before .node-of .ensures) (c .before .if1 .left))
 
 same-length-5 : tie.Need-same-length-5
-same-length-5 c = search needs
+same-length-5 c = omega arith
 
 same-length-6 : tie.Need-same-length-6
-same-length-6 c = search needs
+same-length-6 c = omega arith
 
 returns-3 : tie.Need-returns-3
 returns-3 c =
@@ -68,10 +67,10 @@ returns-3 c =
     let N = c .before .before .before .before .node-of .ensures in let d = c .before .before .before .if1 .left in found-there _ (start .pre .0) _ _ (start .pre .1 .0) _ (found-in N d) (found-from N d) (found-set N d) (tells-yes _ (c .before .has-link .ensures) (c .if3 .taken))
 
 same-length-7 : tie.Need-same-length-7
-same-length-7 c = search needs
+same-length-7 c = omega arith
 
 same-length-8 : tie.Need-same-length-8
-same-length-8 c = search needs
+same-length-8 c = omega arith
 
 returns-4 : tie.Need-returns-4
 returns-4 c =
@@ -88,10 +87,10 @@ add-t31 : tie.Need-add-t31
 add-t31 c = omega (arith, c .before .before .before .before .before .before .before .before .before .before .before .before .before .before .before .pre .0 .core .fits, c .before .before .before .before .before .before .before .before .before .before .before .before .before .before .before .pre .0 .core .few)
 
 same-length-9 : tie.Need-same-length-9
-same-length-9 c = search needs
+same-length-9 c = omega arith
 
 same-length-10 : tie.Need-same-length-10
-same-length-10 c = search needs
+same-length-10 c = omega arith
 
 returns-5 : tie.Need-returns-5
 returns-5 c = let N = c .before .before .before .before .before .before .before .before .before .before .node-of .ensures in let d = c .before .before .before .before .before .before .before .before .before .if1 .left in adds-by (c .before .before .put-link2 .ensures) refl (found-linked _ (c .before .before .before .before .before .before .before .before .before .before .before .before .before .before .before .pre .0) _ _ (c .before .before .before .before .before .before .before .before .before .before .before .before .before .before .before .pre .1 .0) _ (found-in N d) (found-from N d) (found-set N d) (tells-no _ (c .before .before .before .before .before .before .before .has-link .ensures) (c .before .before .before .before .before .before .if3 .left)) (let h = c .before .before .before .before .before .before .before .before .before .before .before .before .before .before .before .pre .0 .core .fits in omega (arith, c .before .before .before .before .if4 .left)))

@@ -2,7 +2,6 @@
 use mathlib.Core.Path.{sym, _∙_}
 use mathlib.Core.Logic.{_≢_}
 use native.Mathlib.Omega.{arith}
-use borrow.Author.Needs.{needs}
 use Rattle.links.specs.Records.{under}
 use Rattle.links.proofs.Chain.{Walk, walk-start, walk-next, walk-less, walk-room, walk-end, edge-at, node-inside}
 use Rattle.links.proofs.has_link.Statement.{statement}
@@ -15,10 +14,10 @@ abbrev μ-loop : tie.MeasureT-loop
 μ-loop buf nodes links n m k₀ k = k
 
 mul-number : tie.Need-mul-number Inv-loop μ-loop
-mul-number c = search needs
+mul-number c = omega arith
 
 add-number : tie.Need-add-number Inv-loop μ-loop
-add-number c = search needs
+add-number c = omega arith
 
 number-requires : tie.Need-number-requires Inv-loop μ-loop
 number-requires c κs = node-inside (c .before .pre .0) (c .before .pre .1)

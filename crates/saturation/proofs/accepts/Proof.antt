@@ -1,12 +1,13 @@
 -- `saturation::accepts` meets its contract. The mark 3 is the accept mark. Assumes nothing.
-use borrow.Author.Needs.{needs}
+use native.Mathlib.Omega.{arith}
 use Rattle.table.specs.Layout.{mem}
+use Rattle.saturation.proofs.Table.{cells-in}
 use Rattle.saturation.proofs.Marks.{accepting}
 use Rattle.saturation.proofs.accepts.Statement.{statement}
 use Rattle.saturation.proofs.accepts.Tie as tie
 
 has-mark-requires : tie.Need-has-mark-requires
-has-mark-requires c κs = search needs
+has-mark-requires c κs = let H = c .before .before .before .before .pre .0 .1 .core in ((omega (arith, H .node-room, H .room), (H .few-sets, cells-in _ (c .before .before .before .before .pre .1 .0) (c .before .before .before .before .pre .1 .1) .0)), (H .begun, H .in-sets))
 
 returns : tie.Need-returns
 returns c =

@@ -1,12 +1,13 @@
 -- `saturation::first_waiting` meets its contract. The mark 1 is that of an unexpanded set. Assumes nothing.
-use borrow.Author.Needs.{needs}
+use native.Mathlib.Omega.{arith}
 use Rattle.table.specs.Layout.{mem}
+use Rattle.saturation.proofs.Table.{cells-in}
 use Rattle.saturation.proofs.Marks.{none-waits, waits}
 use Rattle.saturation.proofs.first_waiting.Statement.{statement}
 use Rattle.saturation.proofs.first_waiting.Tie as tie
 
 lowest-requires : tie.Need-lowest-requires
-lowest-requires c κs = search needs
+lowest-requires c κs = let H = c .before .before .before .before .pre .0 .1 .core in ((omega (arith, H .node-room, H .room), (H .few-sets, cells-in _ (c .before .before .before .before .pre .1 .0) (c .before .before .before .before .pre .1 .1) .0)), (H .begun, H .in-sets))
 
 returns : tie.Need-returns
 returns c =

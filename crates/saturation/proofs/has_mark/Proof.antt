@@ -1,7 +1,6 @@
 -- `saturation::has_mark` meets its contract. The invariant: no node below m has the mark. Assumes nothing.
 use Prim.Native.Nat.{_≤_, _-_, _*_}
 use native.Mathlib.Omega.{arith}
-use borrow.Author.Needs.{needs}
 use Rattle.saturation.specs.Ends.{Marked}
 use Rattle.saturation.proofs.Marks.{marked-at, unmarked-next, unmarked-end}
 use Rattle.saturation.proofs.has_mark.Statement.{statement}
@@ -17,13 +16,13 @@ loop-holds : tie.Need-loop-holds Inv-loop μ-loop
 loop-holds c = (omega arith, omega arith, λ w. let a = w .from in let b = w .low in omega arith)
 
 mul-number : tie.Need-mul-number Inv-loop μ-loop
-mul-number c = search needs
+mul-number c = omega arith
 
 add-number : tie.Need-add-number Inv-loop μ-loop
-add-number c = search needs
+add-number c = omega arith
 
 number-requires : tie.Need-number-requires Inv-loop μ-loop
-number-requires c κs = search needs
+number-requires c κs = omega arith
 
 mul-if1 : tie.Need-mul-if1 Inv-loop μ-loop
 mul-if1 c = let l = c .before .before .before .before .before .pre .1 .1 (c .before .before .loop .m) (c .before .loop-test .taken) in omega (arith, c .number .ensures)
@@ -40,10 +39,10 @@ returns c =
     marked-at _ _ _ _ (turn .loop .m) _ _ (turn .loop .inv .0) (c .before .before .before .loop-test .taken) (c .before .before .number .ensures) (c .if1 .taken)
 
 add-m : tie.Need-add-m Inv-loop μ-loop
-add-m c = search needs
+add-m c = omega arith
 
 loop-less : tie.Need-loop-less Inv-loop μ-loop
-loop-less c = search needs
+loop-less c = omega arith
 
 loop-again : tie.Need-loop-again Inv-loop μ-loop
 loop-again c = (omega arith, omega arith, unmarked-next _ _ _ _ _ _ (c .before .before .before .before .loop .inv .2) (c .before .before .number .ensures) (c .if1 .left))

@@ -3,7 +3,6 @@ use mathlib.Core.Path.{_≡_, refl}
 use Prim.Native.Nat.{_≤_, _-_}
 use native.Mathlib.Omega.{arith}
 use lib.ListN.{length}
-use borrow.Author.Needs.{needs}
 use Rattle.links.specs.Records.{graph}
 use Rattle.links.proofs.Chain.{chained}
 use Rattle.levels.proofs.Sparse.{few}
@@ -23,22 +22,22 @@ loop-holds : tie.Need-loop-holds Inv-loop μ-loop
 loop-holds c = ((omega arith, omega (arith, few (c .before .before .before .before .pre .1 .1 .1 .1), chained (c .before .before .before .before .pre .0 .core) .few)), refl, refl, list-start _ _ _ _ (c .before .before .before .before .pre .0))
 
 mul-number : tie.Need-mul-number Inv-loop μ-loop
-mul-number c = search needs
+mul-number c = omega arith
 
 add-number : tie.Need-add-number Inv-loop μ-loop
-add-number c = search needs
+add-number c = omega arith
 
 number-requires : tie.Need-number-requires Inv-loop μ-loop
-number-requires c κs = search needs
+number-requires c κs = omega arith
 
 link-to-requires : tie.Need-link-to-requires Inv-loop μ-loop
 link-to-requires c κs = let D = c .before .before .before .before .loop .inv .3 in let l = c .before .before .before .before .before .before .before .before .before .pre .1 .1 .1 .1 .inside (c .before .before .before .before .loop .i) (c .before .before .before .loop-test .taken) in (D .held, ((omega (arith, c .before .before .number .ensures, D .grown .nodes), c .before .before .before .before .before .before .before .before .before .pre .1 .0 .0), c .before .before .before .before .before .before .before .before .before .pre .1 .0 .1))
 
 add-i : tie.Need-add-i Inv-loop μ-loop
-add-i c = search needs
+add-i c = omega arith
 
 loop-less : tie.Need-loop-less Inv-loop μ-loop
-loop-less c = search needs
+loop-less c = omega arith
 
 loop-again : tie.Need-loop-again Inv-loop μ-loop
 loop-again c = let l = c .before .before .before .before .before .before .before .before .before .before .before .before .before .before .pre .1 .1 .1 .1 .inside (c .before .before .before .before .before .before .before .before .before .loop .i) (c .before .before .before .before .before .before .before .before .loop-test .taken) in ((omega arith, omega arith), omega arith, omega arith, list-next _ _ _ _ _ _ (c .before .before .before .before .before .before .before .number .ensures) (omega (arith, c .before .before .before .before .before .before .before .number .ensures)) (c .before .before .before .before .before .before .before .before .before .loop .inv .3) (c .before .before .before .before .link-to .ensures))

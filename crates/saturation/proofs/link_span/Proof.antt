@@ -3,7 +3,6 @@ use mathlib.Core.Path.{_≡_, refl}
 use Prim.Native.Nat.{_≤_, _-_}
 use native.Mathlib.Omega.{arith}
 use lib.ListN.{length}
-use borrow.Author.Needs.{needs}
 use Rattle.links.specs.Records.{graph}
 use Rattle.saturation.specs.Wanted.{ToSpan}
 use Rattle.saturation.specs.Moves.{Does}
@@ -24,10 +23,10 @@ link-to-requires : tie.Need-link-to-requires Inv-loop μ-loop
 link-to-requires c κs = let D = c .before .before .before .loop .inv .3 in (D .held, ((omega (arith, D .grown .nodes, c .before .before .loop-test .taken), c .before .before .before .before .before .before .before .pre .1 .0), c .before .before .before .before .before .before .before .pre .1 .1))
 
 add-m : tie.Need-add-m Inv-loop μ-loop
-add-m c = search needs
+add-m c = omega arith
 
 loop-less : tie.Need-loop-less Inv-loop μ-loop
-loop-less c = search needs
+loop-less c = omega arith
 
 loop-again : tie.Need-loop-again Inv-loop μ-loop
 loop-again c = ((omega arith, omega arith, c .before .before .before .before .before .before .before .before .loop .inv .0 .2), omega (arith, c .before .before .before .before .before .before .before .before .loop .inv .1), omega (arith, c .before .before .before .before .before .before .before .before .loop .inv .2), span-next _ _ _ _ (omega (arith, c .before .before .before .before .before .before .before .before .loop .inv .0 .2, c .before .before .before .before .before .before .before .loop-test .taken)) (c .before .before .before .before .before .before .before .before .loop .inv .0 .0) (c .before .before .before .before .before .before .before .before .loop .inv .3) (c .before .before .before .before .link-to .ensures))

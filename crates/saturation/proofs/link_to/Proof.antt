@@ -1,7 +1,6 @@
 -- `saturation::link_to` meets its contract. No target, or the link added. Assumes nothing.
 use Prim.Native.Nat.{_+_, _*_}
 use native.Mathlib.Omega.{arith}
-use borrow.Author.Needs.{needs}
 use Rattle.links.proofs.Chain.{chained, node-inside}
 use Rattle.saturation.proofs.Does.{to-none, to-added}
 use Rattle.saturation.proofs.link_to.Statement.{statement}
@@ -29,7 +28,7 @@ cast-s : tie.Need-cast-s
 cast-s c = omega (arith, c .shared-slice-known2 .given (c .before .number .result * 128 + c .before .before .before .before .before .before .args .x))
 
 same-length : tie.Need-same-length
-same-length c = search needs
+same-length c = omega arith
 
 returns : tie.Need-returns
 returns c =
@@ -40,10 +39,10 @@ add-link-requires : tie.Need-add-link-requires
 add-link-requires c κs = (c .before .before .before .before .before .before .before .before .before .pre .0, (c .before .before .before .before .before .before .before .before .before .pre .1 .0 .0, c .before .before .before .before .before .before .before .before .before .pre .1 .1 .1 _ _ (omega (arith, c .before .before .before .before .number .ensures, c .before .before .before .before .before .before .before .before .before .pre .0 .core .in-sets _ (c .before .before .before .before .before .before .before .before .before .pre .1 .0 .0))) (c .before .before .before .before .before .before .before .before .before .pre .1 .0 .1 .0) (c .before .before .before .before .before .before .before .before .before .pre .1 .0 .1 .1)))
 
 same-length-2 : tie.Need-same-length-2
-same-length-2 c = search needs
+same-length-2 c = omega arith
 
 same-length-3 : tie.Need-same-length-3
-same-length-3 c = search needs
+same-length-3 c = omega arith
 
 returns-2 : tie.Need-returns-2
 returns-2 c = to-added _ _ _ _ (c .before .before .before .before .before .before .before .before .before .number .ensures) (c .before .before .before .before .before .before .before .if1 .left) (c .before .before .before .before .add-link .ensures)

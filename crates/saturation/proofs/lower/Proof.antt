@@ -1,23 +1,23 @@
 -- `saturation::lower` meets its contract. Three ways out. Assumes nothing.
-use borrow.Author.Needs.{needs}
+use native.Mathlib.Omega.{arith}
 use Rattle.saturation.proofs.Marks.{lower-not, lower-yes, lower-high}
 use Rattle.saturation.proofs.lower.Statement.{statement}
 use Rattle.saturation.proofs.lower.Tie as tie
 
 mul-number : tie.Need-mul-number
-mul-number c = search needs
+mul-number c = omega arith
 
 add-number : tie.Need-add-number
-add-number c = search needs
+add-number c = omega arith
 
 number-requires : tie.Need-number-requires
-number-requires c κs = search needs
+number-requires c κs = omega arith
 
 mul-if1 : tie.Need-mul-if1
-mul-if1 c = search needs
+mul-if1 c = omega arith
 
 shared-slice-read-if1 : tie.Need-shared-slice-read-if1
-shared-slice-read-if1 c = search needs
+shared-slice-read-if1 c = omega arith
 
 returns : tie.Need-returns
 returns c = lower-not _ _ _ _ _ (c .before .before .number .ensures) (c .if1 .taken)

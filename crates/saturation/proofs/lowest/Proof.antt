@@ -1,7 +1,6 @@
 -- `saturation::lowest` meets its contract. The invariant: `best` is the lowest of the nodes below m. Assumes nothing.
 use Prim.Native.Nat.{_≤_, _-_}
 use native.Mathlib.Omega.{arith}
-use borrow.Author.Needs.{needs}
 use Rattle.saturation.specs.Ends.{LowestIn}
 use Rattle.saturation.proofs.Marks.{lowest-start, lowest-next, lowest-end}
 use Rattle.saturation.proofs.lowest.Statement.{statement}
@@ -20,10 +19,10 @@ lower-requires : tie.Need-lower-requires Inv-loop μ-loop
 lower-requires c κs = ((omega arith, c .before .before .before .before .pre .0 .1), c .before .before .before .before .pre .1 .1 _ (c .loop-test .taken))
 
 add-m : tie.Need-add-m Inv-loop μ-loop
-add-m c = search needs
+add-m c = omega arith
 
 loop-less : tie.Need-loop-less Inv-loop μ-loop
-loop-less c = search needs
+loop-less c = omega arith
 
 loop-again : tie.Need-loop-again Inv-loop μ-loop
 loop-again c = (omega arith, omega arith, lowest-next _ _ _ _ _ _ _ (c .before .before .loop .inv .0) (c .before .before .loop .inv .2) (c .lower .ensures))

@@ -1,28 +1,27 @@
 -- `saturation::next_reduction` meets its contract. The next bit from 1024 on. Assumes nothing.
 use native.Mathlib.Omega.{arith}
-use borrow.Author.Needs.{needs}
 use Rattle.kernels.proofs.NextBit.{next-at, next-nothing}
 use Rattle.saturation.proofs.Next.{next-rule, no-rule}
 use Rattle.saturation.proofs.next_reduction.Statement.{statement}
 use Rattle.saturation.proofs.next_reduction.Tie as tie
 
 mul-next : tie.Need-mul-next
-mul-next c = search needs
+mul-next c = omega arith
 
 add-next : tie.Need-add-next
-add-next c = search needs
+add-next c = omega arith
 
 next-requires : tie.Need-next-requires
-next-requires c κs = search needs
+next-requires c κs = omega arith
 
 enum-known-f : tie.Need-enum-known-f
-enum-known-f c = search needs
+enum-known-f c = omega arith
 
 sub-result : tie.Need-sub-result
 sub-result c = let l = next-at _ _ _ (c .before .before .before .next .ensures) (c .before .f .given .1) in omega (arith, l .above)
 
 enum-told : tie.Need-enum-told
-enum-told c = search needs
+enum-told c = omega arith
 
 returns : tie.Need-returns
 returns c = next-rule _ _ _ _ (next-at _ _ _ (c .before .before .before .next .ensures) (c .before .f .given .1))

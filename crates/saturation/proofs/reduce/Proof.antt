@@ -1,7 +1,6 @@
 -- `saturation::reduce` meets its contract. The level holds the ends of the paths, and each is linked. Assumes nothing.
 use Prim.Native.Nat.{_+_, _*_}
 use native.Mathlib.Omega.{arith}
-use borrow.Author.Needs.{needs}
 use Rattle.links.proofs.Chain.{chained}
 use Rattle.saturation.proofs.Table.{cells-in, rule-room, left-in}
 use Rattle.saturation.proofs.Works.{set-low, rule-works}
@@ -47,13 +46,13 @@ link-level-requires : tie.Need-link-level-requires
 link-level-requires c κs = let F = c .before .before .before .before .before .before .before .before .before .before .before .before .before .before .before .before .pre .1 .0 .0 in let s = set-low F (c .before .before .before .before .before .before .before .before .before .before .before .before .before .before .before .before .pre .0 .0) (c .before .before .before .before .before .before .before .before .before .before .before .before .before .before .before .before .pre .1 .0 .1) _ (c .before .before .before .before .before .before .before .before .before .before .before .before .before .before .before .before .pre .1 .1 .0) in (c .before .before .before .before .before .before .before .before .before .before .before .before .before .before .before .before .pre .0 .0, ((left-in _ F _ _ s (c .before .before .before .before .before .before .before .before .before .before .before .before .before .before .before .before .pre .1 .1 .1 .1 .0) (c .before .before .before .before .before .before .before .before .before .before .before .before .before .before .before .before .pre .1 .1 .1 .1 .1), cells-in _ F (c .before .before .before .before .before .before .before .before .before .before .before .before .before .before .before .before .pre .1 .0 .1)), (omega arith, (c .before .before .before .before .before .levels .ensures .0, c .before .before .before .before .before .levels .ensures .1 .list))))
 
 same-length : tie.Need-same-length
-same-length c = search needs
+same-length c = omega arith
 
 same-length-2 : tie.Need-same-length-2
-same-length-2 c = search needs
+same-length-2 c = omega arith
 
 same-length-3 : tie.Need-same-length-3
-same-length-3 c = search needs
+same-length-3 c = omega arith
 
 returns : tie.Need-returns
 returns c =

@@ -3,7 +3,6 @@ use mathlib.Core.Path.{_≡_, refl}
 use Prim.Native.Nat.{_+_, _*_, _-_, _≤_, _<_}
 use native.Mathlib.Omega.{arith}
 use lib.ListN.{length}
-use borrow.Author.Needs.{needs}
 use Rattle.kernels.specs.Kernel.{has}
 use Rattle.table.specs.Layout.{mem, view}
 use Rattle.links.specs.Records.{graph, inSet}
@@ -41,7 +40,7 @@ reduce-requires : tie.Need-reduce-requires Inv-loop μ-loop
 reduce-requires c κs = let D = c .before .before .before .before .loop .inv .3 in let t = c .before .before .before .loop-test .taken in ((D .held, omega (arith, c .before .before .before .before .loop .inv .1 .2, c .before .before .before .before .before .before .before .before .before .before .before .before .before .before .pre .0 .1)), (c .before .before .before .before .before .before .before .before .before .before .before .before .before .before .pre .1 .0, (omega (arith, D .grown .nodes, c .before .before .before .before .before .before .before .before .before .before .before .before .before .before .pre .1 .1 .0), (c .before .before .before .before .before .before .before .before .before .before .before .before .before .before .pre .1 .1 .1, (t, bit-now _ _ _ _ (c .before .before .before .before .loop .inv .0 .1) (c .before .before .before .before .before .before .before .before .before .before .before .before .before .before .pre .1 .1 .0) D (c .before .before .before .before .loop .inv .2 t))))))
 
 add-next-reduction : tie.Need-add-next-reduction Inv-loop μ-loop
-add-next-reduction c = search needs
+add-next-reduction c = omega arith
 
 next-reduction-requires-2 : tie.Need-next-reduction-requires-2 Inv-loop μ-loop
 next-reduction-requires-2 c κs = let F = c .before .before .before .before .before .before .before .before .before .before .before .before .before .before .before .before .before .before .before .before .before .pre .1 .0 .0 in let s = set-low F (c .before .before .before .before .before .before .before .before .before .before .before .before .before .before .before .before .before .before .before .before .before .pre .0 .0) (c .before .before .before .before .before .before .before .before .before .before .before .before .before .before .before .before .before .before .before .before .before .pre .1 .0 .1) _ (c .before .before .before .before .before .before .before .before .before .before .before .before .before .before .before .before .before .before .before .before .before .pre .1 .1 .0) in omega (arith, c .before .before .before .before .before .before .before .before .before .before .before .before .before .number .ensures, F .laid .sized .few-sets, F .laid .sized .words)
