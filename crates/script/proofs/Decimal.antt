@@ -60,9 +60,9 @@ decimal-more n d g l k =
 
 -- ---- how long it is, and how it begins
 
-pub decimal-length : (n : ℕ) → n ≤ 9999 → (1 ≤ length (decimal n)) × (length (decimal n) ≤ 4)
+pub decimal-length : (n : ℕ) → n ≤ 9999 → length (decimal n) ≤ 4
 decimal-length n m =
-    by-width (λ k. (1 ≤ length (decimal k)) × (length (decimal k) ≤ 4)) n m
+    by-width (λ k. length (decimal k) ≤ 4) n m
     (λ p. rw (decimal-1 n p) (omega arith))
     (λ p q. rw (decimal-2 n p q) (omega arith))
     (λ p q. rw (decimal-3 n p q) (omega arith))
@@ -164,5 +164,5 @@ too-long m n (b ∷ s) t p q w f g e =
     ∙ ap (λ l. decimal n ++ l) (digits-none t g) ∙ append-nil (decimal n) in
     ⊎-elim
     (λ z. no-leading-zero n b (digits s) q (sym d ∙ ap (λ k. decimal k ++ (b ∷ digits s)) z ∙ ap (λ l. l ++ (b ∷ digits s)) (decimal-1 0 (omega arith))))
-    (λ z. omega (arith, decimal-full m z p, decimal-length n q .1, simp length-append at (ap length d)))
+    (λ z. omega (arith, decimal-full m z p, decimal-length n q, simp length-append at (ap length d)))
     w

@@ -3,6 +3,7 @@ pub mod Decimal
 pub mod Reading
 pub mod Spaced
 pub mod Meaning
+pub mod OneReading
 pub mod Telling
 pub mod Putting
 pub mod Lines

@@ -29,7 +29,7 @@ spaced-length : (ns : List ℕ) → ((n : ℕ) → In n ns → n ≤ 9999) → l
 unfolding spaced
 spaced-length [] h = omega arith
 spaced-length (n ∷ ns) h =
-    omega (arith, length-append (decimal n) (spaced ns), decimal-length n (h n (here refl)) .1, spaced-length ns (λ k m. h k (there m)))
+    omega (arith, length-append (decimal n) (spaced ns), decimal-length n (h n (here refl)), spaced-length ns (λ k m. h k (there m)))
 
 -- so a reader may drop what stands beyond a line's first 1,281 bytes, if it remembers that there was more
 pub long-malformed : (line : List ℕ) → 1281 < length line → Means line malformed

@@ -13,8 +13,9 @@
 // program may cut a line off after 1,282 bytes: it is malformed all the same (`long-malformed`).
 //
 // What a line means is defined on the written line and not on how it is read: specs/Text.antt has how lines are written,
-// specs/Command.antt what they mean, specs/Printed.antt what is printed. proofs/Meaning.antt proves that a line has one
-// meaning (`means-one`), proofs/Putting.antt that what is put leaves one text (`puts-one`).
+// specs/Command.antt what they mean, specs/Printed.antt what is printed. A line has one meaning (`means-one`, proofs/Meaning.antt),
+// one command and one buffer tell it (`reads-one`, proofs/OneReading.antt), and what is put leaves one text (`puts-one`,
+// proofs/Putting.antt).
 mod answer;
 mod command;
 mod cursor;

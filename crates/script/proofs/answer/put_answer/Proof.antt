@@ -11,7 +11,7 @@ put-number-requires : tie.Need-put-number-requires
 put-number-requires c κs = search needs
 
 put-byte-requires : tie.Need-put-byte-requires
-put-byte-requires c κs = omega (arith, c .before .before .before .before .before .before .pre, c .before .before .before .put-number .ensures .moved, c .before .before .before .put-number .kept, decimal-length (c .before .before .before .before .before .before .args .answer) (c .before .before .before .before .before .before .pre .0) .1)
+put-byte-requires c κs = omega (arith, c .before .before .before .before .before .before .pre, c .before .before .before .put-number .ensures .moved, c .before .before .before .put-number .kept, decimal-length (c .before .before .before .before .before .before .args .answer) (c .before .before .before .before .before .before .pre .0))
 
 same-length : tie.Need-same-length
 same-length c = search needs

@@ -11,13 +11,13 @@ put-number-requires : tie.Need-put-number-requires
 put-number-requires c κs = search needs
 
 put-spaced-requires : tie.Need-put-spaced-requires
-put-spaced-requires c κs = omega (arith, c .before .before .before .before .before .before .pre, c .before .before .before .put-number .ensures .moved, c .before .before .before .put-number .kept, decimal-length (c .before .before .before .before .before .before .args .a) (c .before .before .before .before .before .before .pre .0) .1)
+put-spaced-requires c κs = omega (arith, c .before .before .before .before .before .before .pre, c .before .before .before .put-number .ensures .moved, c .before .before .before .put-number .kept, decimal-length (c .before .before .before .before .before .before .args .a) (c .before .before .before .before .before .before .pre .0))
 
 put-spaced-requires-2 : tie.Need-put-spaced-requires-2
-put-spaced-requires-2 c κs = omega (arith, c .before .before .before .before .before .before .before .before .before .before .pre, c .before .before .before .before .before .before .before .put-number .ensures .moved, c .before .before .before .before .before .before .before .put-number .kept, c .before .before .before .put-spaced .ensures .moved, c .before .before .before .put-spaced .kept, decimal-length (c .before .before .before .before .before .before .before .before .before .before .args .a) (c .before .before .before .before .before .before .before .before .before .before .pre .0) .1, decimal-length (c .before .before .before .before .before .before .before .before .before .before .args .b) (c .before .before .before .before .before .before .before .before .before .before .pre .1) .1)
+put-spaced-requires-2 c κs = omega (arith, c .before .before .before .before .before .before .before .before .before .before .pre, c .before .before .before .before .before .before .before .put-number .ensures .moved, c .before .before .before .before .before .before .before .put-number .kept, c .before .before .before .put-spaced .ensures .moved, c .before .before .before .put-spaced .kept, decimal-length (c .before .before .before .before .before .before .before .before .before .before .args .a) (c .before .before .before .before .before .before .before .before .before .before .pre .0), decimal-length (c .before .before .before .before .before .before .before .before .before .before .args .b) (c .before .before .before .before .before .before .before .before .before .before .pre .1))
 
 put-byte-requires : tie.Need-put-byte-requires
-put-byte-requires c κs = omega (arith, c .before .before .before .before .before .before .before .before .before .before .before .before .before .before .pre, c .before .before .before .before .before .before .before .before .before .before .before .put-number .ensures .moved, c .before .before .before .before .before .before .before .before .before .before .before .put-number .kept, c .before .before .before .before .before .before .before .put-spaced .ensures .moved, c .before .before .before .before .before .before .before .put-spaced .kept, c .before .before .before .put-spaced2 .ensures .moved, c .before .before .before .put-spaced2 .kept, decimal-length (c .before .before .before .before .before .before .before .before .before .before .before .before .before .before .args .a) (c .before .before .before .before .before .before .before .before .before .before .before .before .before .before .pre .0) .1, decimal-length (c .before .before .before .before .before .before .before .before .before .before .before .before .before .before .args .b) (c .before .before .before .before .before .before .before .before .before .before .before .before .before .before .pre .1) .1, decimal-length (c .before .before .before .before .before .before .before .before .before .before .before .before .before .before .args .c) (c .before .before .before .before .before .before .before .before .before .before .before .before .before .before .pre .2) .1)
+put-byte-requires c κs = omega (arith, c .before .before .before .before .before .before .before .before .before .before .before .before .before .before .pre, c .before .before .before .before .before .before .before .before .before .before .before .put-number .ensures .moved, c .before .before .before .before .before .before .before .before .before .before .before .put-number .kept, c .before .before .before .before .before .before .before .put-spaced .ensures .moved, c .before .before .before .before .before .before .before .put-spaced .kept, c .before .before .before .put-spaced2 .ensures .moved, c .before .before .before .put-spaced2 .kept, decimal-length (c .before .before .before .before .before .before .before .before .before .before .before .before .before .before .args .a) (c .before .before .before .before .before .before .before .before .before .before .before .before .before .before .pre .0), decimal-length (c .before .before .before .before .before .before .before .before .before .before .before .before .before .before .args .b) (c .before .before .before .before .before .before .before .before .before .before .before .before .before .before .pre .1), decimal-length (c .before .before .before .before .before .before .before .before .before .before .before .before .before .before .args .c) (c .before .before .before .before .before .before .before .before .before .before .before .before .before .before .pre .2))
 
 same-length : tie.Need-same-length
 same-length c = search needs

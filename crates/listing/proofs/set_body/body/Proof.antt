@@ -1,0 +1,54 @@
+-- `body` meets its contract: what is put one after the other is the body of set s in every laid table with these cells and words.
+-- Assumes nothing.
+use Prim.Native.Nat.{_+_, _*_}
+use native.Mathlib.Omega.{arith}
+use borrow.Author.Needs.{needs}
+use Rattle.table.specs.Layout.{mem}
+use Rattle.script.proofs.Putting.{puts-then, puts-as}
+use Rattle.listing.specs.Walk.{bodyOf}
+use Rattle.listing.proofs.Lengths.{three-digits, items-length, rest-length}
+use Rattle.listing.proofs.Seen.{body-seen}
+use Rattle.listing.proofs.set_body.body.Statement.{statement}
+use Rattle.listing.proofs.set_body.body.Tie as tie
+
+put-byte-requires : tie.Need-put-byte-requires
+put-byte-requires c κs = search needs
+
+put-spaced-requires : tie.Need-put-spaced-requires
+put-spaced-requires c κs = search needs
+
+mul-put-kernel : tie.Need-mul-put-kernel
+mul-put-kernel c = search needs
+
+put-kernel-requires : tie.Need-put-kernel-requires
+put-kernel-requires c κs = omega (arith, c .before .before .before .before .before .before .before .before .before .before .before .before .pre, c .before .before .before .before .before .before .before .put-byte .ensures .moved, c .before .before .before .before .before .before .before .put-byte .kept .0, c .before .before .before .put-spaced .ensures .moved, c .before .before .before .put-spaced .kept .0, three-digits (c .before .before .before .before .before .before .before .before .before .before .before .before .args .s) (omega (arith, c .before .before .before .before .before .before .before .before .before .before .before .before .pre)))
+
+put-rest-requires : tie.Need-put-rest-requires
+put-rest-requires c κs = let far = items-length (c .before .before .before .before .before .before .before .before .before .before .before .before .before .before .before .before .args .words .now) (c .before .before .before .before .before .before .before .before .before .before .before .before .before .before .before .before .args .s * 18) 1024 (omega arith) in
+    omega (arith, c .before .before .before .before .before .before .before .before .before .before .before .before .before .before .before .before .pre, c .before .before .before .before .before .before .before .before .before .before .before .put-byte .ensures .moved, c .before .before .before .before .before .before .before .before .before .before .before .put-byte .kept .0, c .before .before .before .before .before .before .before .put-spaced .ensures .moved, c .before .before .before .before .before .before .before .put-spaced .kept .0, c .before .before .before .put-kernel .ensures .moved, c .before .before .before .put-kernel .kept .1 .1 .0, three-digits (c .before .before .before .before .before .before .before .before .before .before .before .before .before .before .before .before .args .s) (omega (arith, c .before .before .before .before .before .before .before .before .before .before .before .before .before .before .before .before .pre)), far)
+
+put-byte-requires-2 : tie.Need-put-byte-requires-2
+put-byte-requires-2 c κs = let far = items-length (c .before .before .before .before .before .before .before .before .before .before .before .before .before .before .before .before .before .before .before .before .args .words .now) (c .before .before .before .before .before .before .before .before .before .before .before .before .before .before .before .before .before .before .before .before .args .s * 18) 1024 (omega arith) in
+    let more = rest-length (c .before .before .before .before .before .before .before .before .before .before .before .before .before .before .before .before .before .before .before .before .args .cells .now) (c .before .before .before .before .before .before .before .before .before .before .before .before .before .before .before .before .before .before .before .before .args .words .now) (c .before .before .before .before .before .before .before .before .before .before .before .before .before .before .before .before .before .before .before .before .args .s) (λ k. c .before .before .before .before .before .before .before .before .before .before .before .before .before .before .before .before .before .before .before .shared-slice-known .given (c .before .before .before .before .before .before .before .before .before .before .before .before .before .before .before .before .before .before .before .before .args .s * 128 + k) .fits) in
+    omega (arith, c .before .before .before .before .before .before .before .before .before .before .before .before .before .before .before .before .before .before .before .before .pre, c .before .before .before .before .before .before .before .before .before .before .before .before .before .before .before .put-byte .ensures .moved, c .before .before .before .before .before .before .before .before .before .before .before .before .before .before .before .put-byte .kept .0, c .before .before .before .before .before .before .before .before .before .before .before .put-spaced .ensures .moved, c .before .before .before .before .before .before .before .before .before .before .before .put-spaced .kept .0, c .before .before .before .before .before .before .before .put-kernel .ensures .moved, c .before .before .before .before .before .before .before .put-kernel .kept .1 .1 .0, c .before .before .before .put-rest .ensures .moved, c .before .before .before .put-rest .kept .1 .1 .1 .0, three-digits (c .before .before .before .before .before .before .before .before .before .before .before .before .before .before .before .before .before .before .before .before .args .s) (omega (arith, c .before .before .before .before .before .before .before .before .before .before .before .before .before .before .before .before .before .before .before .before .pre)), far, more)
+
+same-length : tie.Need-same-length
+same-length c = search needs
+
+returns : tie.Need-returns
+unfolding bodyOf
+returns c = λ rules l h. puts-as (body-seen (mem rules (c .before .before .before .before .before .before .before .before .before .before .before .before .before .before .before .before .before .before .before .before .before .before .before .args .cells .now) (c .before .before .before .before .before .before .before .before .before .before .before .before .before .before .before .before .before .before .before .before .before .before .before .args .words .now)) (c .before .before .before .before .before .before .before .before .before .before .before .before .before .before .before .before .before .before .before .before .before .before .before .args .s) l h)
+    (puts-then (c .before .before .before .before .before .before .before .before .before .before .before .before .before .before .before .before .before .before .put-byte .ensures) (puts-then (c .before .before .before .before .before .before .before .before .before .before .before .before .before .before .put-spaced .ensures) (puts-then (c .before .before .before .before .before .before .before .before .before .before .put-kernel .ensures) (puts-then (c .before .before .before .before .before .before .put-rest .ensures) (c .before .before .put-byte2 .ensures)))))
+
+pub body-spec : {M : Type 1} → statement M
+body-spec =
+    tie.close
+    (tie.spec
+    put-byte-requires
+    put-spaced-requires
+    mul-put-kernel
+    put-kernel-requires
+    put-rest-requires
+    put-byte-requires-2
+    same-length
+    returns)

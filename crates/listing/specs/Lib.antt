@@ -1,0 +1,4 @@
+-- What the listing is, and how it is walked.
+pub mod Printed
+pub mod Listed
+pub mod Walk

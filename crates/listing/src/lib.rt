@@ -1,0 +1,22 @@
+// The listing: what `L` prints of a table.
+//
+// It is printed in pieces, each put into a lent text from its beginning: the contents line, and the body of one set. So a
+// program needs room for one piece, and writes it out before the next; TEXT bytes are room enough for either, however full
+// the table is. The longest body has 1,024 items of 6 bytes, 127 transitions of 8 and 128 reductions of 4.
+//
+// Cells and words are read where they lie, as `table` lays them out. The items of a kernel and the reductions are found by
+// `kernels::next`, so a body costs what it prints, 18 words and 127 cells; the contents line costs a cell for each set.
+//
+// Nothing here tests the form: whoever calls has done it ("Collect, Restart and the listing check 11 alone"). On numbers that
+// are not laid out what is printed is still as the cells and the words have it, and no contract says what that means.
+//
+// specs/Printed.antt has what `L` prints of a table, specs/Walk.antt the same texts by the numbers, as the code walks them;
+// proofs/Seen.antt proves the two the same.
+mod contents_line;
+mod set_body;
+
+pub use contents_line::contents;
+pub use set_body::body;
+
+// Room for a piece of the listing.
+pub const TEXT: usize = 8192;
