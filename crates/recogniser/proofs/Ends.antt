@@ -1,0 +1,181 @@
+-- A settled position's ways on: the verdict at the end of the line, else a token that no node takes, a link too many, or the next
+-- position. Assumes nothing.
+use mathlib.Core.Path.{_≡_, refl, sym, _∙_, ap, subst, subst₂}
+use mathlib.Core.Bool.{Bool, true, false}
+use mathlib.Core.Logic.{_≢_, inl, inr, ⊎-elim}
+use mathlib.Core.List.{List, [], _∷_, List·Memᴰ as In, List·Memᴰ·cases-cons}
+use Prim.Native.Nat.{ℕ, suc, _+_, _≤_, _<_}
+use native.Mathlib.Numerals.{add-one}
+use native.Mathlib.Decide.{ℕ-discrete}
+use native.Mathlib.Omega.{arith}
+use lib.ListN.{length}
+use Rattle.laws.specs.Choice.{Tells}
+use Rattle.laws.specs.Lists.{addNew}
+use Rattle.laws.specs.Lists.Distinct.{one-more}
+use Rattle.laws.proofs.Choice.{tells-yes, tells-no}
+use Rattle.laws.proofs.Lists.{in-add, distinct-add}
+use Rattle.symbols.specs.declared.answer.Answer.{Answer}
+use Rattle.symbols.specs.declared.answer.Answer.the-variants.{Accept, Reject, NoSets, NoLinks}
+use Rattle.symbols.specs.Answer.{numberOf}
+use Rattle.theory.specs.Table.{Table, target}
+use Rattle.theory.specs.Parse.{Link, link, sameLink, nodesAt, Outcome, outcome, shifts}
+use Rattle.theory.specs.Steps.{Shifted, Steps}
+use Rattle.theory.specs.Steps.Steps.{accepts, rejects, stuck, shift-full, shifts as shifts-on}
+use Rattle.theory.proofs.Counting.{no-longer}
+use Rattle.theory.proofs.Exact.{same-link, in-nodesAt, in-shifts}
+use Rattle.theory.proofs.Grounded.{Grounded, shifted-grounded}
+use Rattle.table.specs.Layout.{Mem, view}
+use Rattle.links.specs.declared.Here.{Here}
+use Rattle.links.specs.declared.Counts.{Counts}
+use Rattle.links.specs.Records.{Graph, graph, linksOf}
+use Rattle.links.proofs.Listed.{count}
+use Rattle.saturation.specs.Ends.{Shifts, Accepting}
+use Rattle.recogniser.specs.declared.Verdict.{Verdict}
+use Rattle.recogniser.specs.Reading.{Stands, Kept, Settles, Refuses, SettlesOr, Advances, AdvancesOr, Finishes}
+use Rattle.recogniser.specs.declared.line.Advanced.the-variants.{On, Ends}
+use Rattle.recogniser.specs.declared.line.Settled.{Settled}
+use Rattle.recogniser.specs.declared.line.Settled.the-variants.{Ready as ReadyWith, NoSets as NoSetsLeft, NoLinks as NoLinksLeft}
+
+abbrev verdict : Answer → ℕ → Verdict
+verdict a n = record { answer = a; links = n }
+
+-- ---- each way out is one of those that the contracts name
+
+module _ {h : Here} {m : Mem} {x : Graph} {n : Mem} {b at : List ℕ} where
+  pub came-ready : {c : Counts} → Settles h m x n (graph b at c) → SettlesOr h m x n b at (ReadyWith c)
+  came-ready {c} s = record {
+    ready = λ d e. subst (λ d. Settles h m x n (graph b at d)) (the c d e) s;
+    no-sets = λ e. absurd (let z : _≡_ {A = ℕ} 0 1 = cc in omega arith);
+    no-links = λ e. absurd (let z : _≡_ {A = ℕ} 0 1 = cc in omega arith);
+  }
+    where
+      the : (c d : Counts) → ReadyWith c ≡ ReadyWith d → c ≡ d
+      the c d e = cc
+
+  pub came-no-sets : Refuses h m x n 20 → SettlesOr h m x n b at NoSetsLeft
+  came-no-sets r = record { ready = λ d e. absurd (let z : _≡_ {A = ℕ} 0 1 = cc in omega arith); no-sets = λ e. r; no-links = λ e. absurd (let z : _≡_ {A = ℕ} 0 1 = cc in omega arith) }
+
+  pub came-no-links : Refuses h m x n 21 → SettlesOr h m x n b at NoLinksLeft
+  came-no-links r = record { ready = λ d e. absurd (let z : _≡_ {A = ℕ} 0 1 = cc in omega arith); no-sets = λ e. absurd (let z : _≡_ {A = ℕ} 0 1 = cc in omega arith); no-links = λ e. r }
+
+  pub came-on : {k s : ℕ} {c : Counts} → Advances h k m x s n (graph b at c) → AdvancesOr h k m x n b at (On s c)
+  came-on {k} {s} {c} a = record {
+    on = λ i d e. subst₂ (λ i d. Advances h k m x i n (graph b at d)) (first e) (second e) a;
+    ends = λ v e. absurd (let z : _≡_ {A = ℕ} 0 1 = cc in omega arith);
+  }
+    where
+      first : {i : ℕ} {d : Counts} → On s c ≡ On i d → s ≡ i
+      first e = cc
+
+      second : {i : ℕ} {d : Counts} → On s c ≡ On i d → c ≡ d
+      second e = cc
+
+  pub came-to-end : {k : ℕ} {v : Verdict} → ((w : List ℕ) → Finishes h (k ∷ w) m x n v) → AdvancesOr h k m x n b at (Ends v)
+  came-to-end {k} {v} f = record {
+    on = λ i d e. absurd (let z : _≡_ {A = ℕ} 0 1 = cc in omega arith);
+    ends = λ u e. subst (λ u. (w : List ℕ) → Finishes h (k ∷ w) m x n u) (the e) f;
+  }
+    where
+      the : {u : Verdict} → Ends v ≡ Ends u → v ≡ u
+      the e = cc
+
+-- ---- a position that was not settled
+
+pub without-sets : {h : Here} {m : Mem} {x : Graph} {n : Mem} → Refuses h m x n 20 → (w : List ℕ) → Finishes h w m x n (verdict NoSets 0)
+without-sets r w = record { kept = r .kept; steps = r .steps w }
+
+pub without-links : {h : Here} {m : Mem} {x : Graph} {n : Mem} → Refuses h m x n 21 → (w : List ℕ) → Finishes h w m x n (verdict NoLinks 0)
+without-links r w = record { kept = r .kept; steps = r .steps w }
+
+-- ---- a settled one
+
+-- there is such a list
+shifting : (t : Table) (p x : ℕ) (m : List Link) → Grounded t p m → (n : List Link) × Shifted t p x m n
+shifting t p x m 𝓖 = (
+  addNew sameLink m (shifts t m p x),
+  record {
+    once = distinct-add sameLink same-link m (shifts t m p x) (𝓖 .once);
+    all = λ l. (
+      λ k. ⊎-elim inl (λ o. let (u, s, a, g, e) = in-shifts t m p x .0 o in inr (u, s, in-nodesAt m p .1 a, g, e)) (in-add sameLink same-link m (shifts t m p x) .0 k),
+      λ k. in-add sameLink same-link m (shifts t m p x) .1 (⊎-elim inl (λ (u, s, a, g, e). inr (in-shifts t m p x .1 (u, s, in-nodesAt m p .0 a, g, e))) k),
+    );
+  },
+)
+
+module _ {t : Table} {p x : ℕ} {m n : List Link} (𝓖 : Grounded t p m) (s : Shifted t p x m n) where
+  not-fewer : length m ≤ length n
+  not-fewer = no-longer (𝓖 .once) n (λ l i. s .all l .1 (inl i))
+
+  -- a link to the next position is new
+  none-new : length n ≡ length m → (u : ℕ) → In u (nodesAt m p) → target (t .sets) u x ≡ 0
+  none-new e u a = elim (ℕ-discrete (target (t .sets) u x) 0) [
+    | yes z ↦ z
+    | no d ↦
+        let l = link (suc p) (target (t .sets) u x) p u in
+        let k = no-longer (one-more {x = l} (λ i. let h = 𝓖 .low l i in omega arith) (𝓖 .once)) n
+        (λ y i. s .all y .1 (⊎-elim (λ q. inr (u, target (t .sets) u x, a, (refl, d), q)) inl (List·Memᴰ·cases-cons i))) in
+        absurd (omega arith)
+  ]
+
+module _ {h : Here} {m : Mem} {x : Graph} {n : Mem} {y : Graph} (S : Settles h m x n y) where
+  abbrev t : Table
+  t = view n
+
+  abbrev p : ℕ
+  p = h .position
+
+  size : length (linksOf y) ≡ y .links
+  size = count (y .buf) (y .links)
+
+  -- ---- at the end of the line: "accept if a node here has the accept mark, else reject"
+
+  pub ends-accepted : Accepting t p (linksOf y) → Finishes h [] m x n (verdict Accept (y .links))
+  ends-accepted a = record { kept = S .kept; steps = S .back [] _ (accepts (S .ready) (a .here) (a .mark) (ap (λ k. outcome 1 k t) size)) }
+
+  pub ends-rejected : (Accepting t p (linksOf y) → ⊥) → Finishes h [] m x n (verdict Reject (y .links))
+  ends-rejected a = record {
+    kept = S .kept;
+    steps = S .back [] _ (rejects (S .ready) (λ u i b. a (record { set = u; here = i; mark = b })) (ap (λ k. outcome 2 k t) size));
+  }
+
+  -- ---- before it
+
+  module _ {k : ℕ} {z : Graph} (D : Shifts t h k y z) where
+    grown : length (linksOf z) ≡ z .links
+    grown = count (z .buf) (z .links)
+
+    -- "More than the pool: NO-LINKS."
+    pub ends-over : z .over ≢ 0 → (w : List ℕ) → Finishes h (k ∷ w) m x n (verdict NoLinks 0)
+    ends-over e w = record {
+      kept = S .kept;
+      steps =
+          let (l, s) = shifting t p k (linksOf y) (S .stands .grounded) in
+          let f = D .more e l s in
+          S .back (k ∷ w) _ (shift-full (S .ready) s (let g = S .ready .in-pool in omega arith) f refl);
+    }
+
+    module _ (e : z .over ≡ 0) where
+      shifted : Shifted t p k (linksOf y) (linksOf z)
+      shifted = D .whole e
+
+      -- "None: reject."
+      pub ends-stuck : z .links ≡ y .links → (w : List ℕ) → Finishes h (k ∷ w) m x n (verdict Reject (y .links))
+      ends-stuck q w = record {
+        kept = S .kept;
+        steps = S .back (k ∷ w) _ (stuck (S .ready) (none-new (S .stands .grounded) shifted (omega (arith, grown, size))) (ap (λ k. outcome 2 k t) size));
+      }
+
+      -- "Then the next position."
+      pub advances : z .links ≢ y .links → Advances h k m x (y .nodes) n z
+      advances q = record {
+        kept = S .kept;
+        stands = record {
+          formed = S .stands .formed;
+          sets = S .stands .sets;
+          held = D .held;
+          in-pool = e;
+          grounded = subst (λ i. Grounded t i (linksOf z)) (sym (add-one p)) (shifted-grounded (S .stands .grounded) shifted);
+        };
+        back = λ w o s. S .back (k ∷ w) o (shifts-on (S .ready) shifted
+            (let f = not-fewer (S .stands .grounded) shifted in omega (arith, grown, size)) (omega (arith, grown, D .held .core .fits)) s);
+      }

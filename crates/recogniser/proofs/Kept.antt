@@ -1,0 +1,62 @@
+-- An expansion on the lent numbers keeps the form, the sizes and what lies beyond the pools, and so do expansions in a row. Assumes nothing.
+use mathlib.Core.Path.{_≡_, refl, sym, _∙_, ap, subst}
+use mathlib.Core.Bool.{Bool}
+use Prim.Native.Nat.{ℕ}
+use native.Mathlib.Omega.{arith}
+use lib.ListN.{length, length-map}
+use Rattle.laws.proofs.Tables.{length-tab}
+use Rattle.theory.specs.Table.{Table}
+use Rattle.theory.specs.Form.{InForm}
+use Rattle.theory.specs.Expansion.{freed, expand}
+use Rattle.theory.proofs.Later.{Later, expand-cases, expand-later}
+use Rattle.theory.proofs.FormGrown.{expand-in-form}
+use Rattle.table.specs.Layout.{Mem, setsIn, rulesIn, view}
+use Rattle.table.specs.Laid.{Formed}
+use Rattle.expansion.specs.Expansion.{Expandable, Expands}
+use Rattle.recogniser.specs.Reading.{Kept}
+
+sets-seen : (m : Mem) → length (view m .sets) ≡ setsIn (m .rules)
+sets-seen m = length-tab (setsIn (m .rules)) _
+
+rules-seen : (m : Mem) → length (view m .rules) ≡ rulesIn (m .rules)
+rules-seen m = length-tab (rulesIn (m .rules)) _
+
+same-rules : (t : Table) (u : ℕ) → length (expand t u .table .rules) ≡ length (t .rules)
+same-rules t u = expand-cases (λ e. length (e .table .rules) ≡ length (t .rules)) t u (λ a. refl) (λ a b. length-map (t .rules) freed) (λ a b. length-map (t .rules) freed)
+
+pub kept-none : {m : Mem} → Formed m → Kept m m
+kept-none f = record {
+  formed = f;
+  becomes = record { laid = f .laid; seen = refl; rules = λ k l. refl; cells = λ k l. refl; words = λ k l. refl };
+  sets = refl;
+  rules = refl;
+}
+
+pub kept-trans : {a b c : Mem} → Kept a b → Kept b c → Kept a c
+kept-trans f g = record {
+  formed = g .formed;
+  becomes = record {
+    laid = g .becomes .laid;
+    seen = refl;
+    rules = λ k l. g .becomes .rules k l ∙ f .becomes .rules k (omega (arith, g .rules));
+    cells = λ k l. g .becomes .cells k l ∙ f .becomes .cells k (omega (arith, g .sets));
+    words = λ k l. g .becomes .words k l ∙ f .becomes .words k (omega (arith, g .sets));
+  };
+  sets = g .sets ∙ f .sets;
+  rules = g .rules ∙ f .rules;
+}
+
+module _ {m n : Mem} {u : ℕ} {r : Bool} (E : Expandable m u) (X : Expands m n u r) where
+  pub expanded-later : Later (view m) (view n)
+  expanded-later = subst (Later (view m)) (sym (X .table .seen)) (expand-later (view m) (E .is .formed .form) u (E .reached) (E .is .bare))
+
+  pub kept-expanded : Kept m n
+  kept-expanded = record {
+    formed = record {
+      laid = X .table .laid;
+      form = subst InForm (sym (X .table .seen)) (expand-in-form (view m) (E .is .formed .form) u (E .reached) (E .is .bare));
+    };
+    becomes = record { laid = X .table .laid; seen = refl; rules = X .table .rules; cells = X .table .cells; words = X .table .words };
+    sets = sym (sets-seen n) ∙ expanded-later .size ∙ sets-seen m;
+    rules = sym (rules-seen n) ∙ ap (λ t. length (t .rules)) (X .table .seen) ∙ same-rules (view m) u ∙ rules-seen m;
+  }

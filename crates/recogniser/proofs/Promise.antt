@@ -1,0 +1,174 @@
+-- What Parse promises follows from its checks and from the steps that it did. Assumes nothing.
+use mathlib.Core.Path.{_≡_, refl, sym, _∙_, ap, subst}
+use mathlib.Core.Bool.{Bool, true, false}
+use mathlib.Core.Logic.{_⊎_, inl, inr, ⊎-elim}
+use mathlib.Core.List.{List, _++_}
+use Prim.Native.Nat.{ℕ, _+_, _-_, _≤_, _<_}
+use native.Mathlib.Omega.{arith}
+use lib.Dec.{T, leb, leb→le, le→leb}
+use lib.ListN.{length, getD, take, drop}
+use lib.Seq.{length-take-le, getD-append-add, getD-drop}
+use Rattle.laws.proofs.Choice.{when-cases}
+use Rattle.symbols.specs.declared.answer.Answer.{Answer}
+use Rattle.symbols.specs.declared.answer.Answer.the-variants.{BadPool, BadTable, LongLine, BadToken}
+use Rattle.symbols.specs.Answer.{numberOf}
+use Rattle.theory.specs.Table.{Table}
+use Rattle.theory.specs.Form.{InForm, inForm}
+use Rattle.theory.specs.Parse.{Outcome, outcome}
+use Rattle.theory.specs.Calls.{refused, checked, parse, allTokens}
+use Rattle.theory.specs.Answers.{Fits}
+use Rattle.theory.proofs.Form.{in-form}
+use Rattle.theory.proofs.Checks.{Parsed, parsed}
+use Rattle.theory.proofs.Checks.Parsed.{bad-table as p-table, bad-pool as p-pool, long-line as p-line, bad-token as p-token, read as p-read}
+use Rattle.theory.proofs.Parsing.{Answered, parsing-answers}
+use Rattle.theory.proofs.Parsing.Answered.{verdict-given, no-room}
+use Rattle.theory.proofs.ParseCall.{past-checks, outcome-of-steps}
+use Rattle.table.specs.Layout.{Mem, view}
+use Rattle.table.specs.Laid.{Formed}
+use Rattle.table.specs.Becomes.{Becomes}
+use Rattle.links.specs.Held.{Cleared}
+use Rattle.recogniser.specs.declared.Verdict.{Verdict}
+use Rattle.recogniser.specs.declared.check.Checked.{Checked}
+use Rattle.recogniser.specs.declared.check.Checked.the-variants.{Passed, Refused}
+use Rattle.recogniser.specs.Parse.{numbersFor, lentParse, Past, Parses}
+use Rattle.recogniser.specs.Reading.{Readable, Reads}
+use Rattle.recogniser.specs.Check.{Refusal, Checks}
+use Rattle.recogniser.specs.Check.Refusal.{bad-table, large-pool, short-buffer, long-line, bad-token}
+use Rattle.recogniser.proofs.Kept.{kept-none}
+
+fails : {b : Bool} → b ≡ false → T b → ⊥
+fails e t = subst T e t
+
+between : {a : ℕ} → Past a → 2 < a → a < 20 → ⊥
+between q h k = ⊎-elim (λ e. omega arith) (⊎-elim (λ e. omega arith) (⊎-elim (λ e. omega arith) (λ e. omega arith))) q
+
+-- ---- each result of the checks is one of those that the contract names
+
+module _ {m : Mem} {room pool : ℕ} {line : List ℕ} where
+  pub came-passed : Readable pool line m room → Checks m room pool line Passed
+  came-passed r = record { passed = λ e. r; refused = λ a e. absurd (let z : _≡_ {A = ℕ} 0 1 = cc in omega arith) }
+
+  pub came-refused : {a : Answer} → Refusal m room pool line a → Checks m room pool line (Refused a)
+  came-refused {a} r = record {
+    passed = λ e. absurd (let z : _≡_ {A = ℕ} 0 1 = cc in omega arith);
+    refused = λ a′ e. subst (Refusal m room pool line) (the e) r;
+  }
+    where
+      the : {a′ : Answer} → Refused a ≡ Refused a′ → a ≡ a′
+      the e = cc
+
+-- ---- a refusal
+
+module _ (m : Mem) (pool : ℕ) (line b : List ℕ) where
+  abbrev t : Table
+  t = view m
+
+  roomy : numbersFor pool ≤ length b → lentParse b pool line t ≡ parse t pool line
+  roomy h = when-cases (λ o. o ≡ parse t pool line) (leb (numbersFor pool) (length b)) (λ e. refl) (λ e. absurd (fails e (le→leb _ _ h)))
+
+  -- a table in form passes the first check
+  passed : InForm t → (o : Outcome) → checked t o ≡ o
+  passed 𝓕 o = when-cases (λ q. q ≡ o) (inForm t) (λ e. refl) (λ e. absurd (fails e (in-form t .1 𝓕)))
+
+  lent-refused : {a : Answer} → Refusal m (length b) pool line a → Formed m → lentParse b pool line t ≡ refused (numberOf a) t
+  lent-refused (bad-table f) 𝓕 = absurd (f 𝓕)
+  lent-refused (large-pool f h) 𝓕 =
+      when-cases (λ o. o ≡ refused 10 t) (leb (numbersFor pool) (length b)) (λ e. go (parsed t pool line)) (λ e. passed (f .form) (refused 10 t))
+    where
+      go : {o : Outcome} → Parsed t pool line o → o ≡ refused 10 t
+      go (p-table g) = absurd (g (f .form))
+      go (p-pool g k) = refl
+      go (p-line g k n) = absurd (omega arith)
+      go (p-token g k n d) = absurd (omega arith)
+      go (p-read g k n d) = absurd (omega arith)
+  lent-refused (short-buffer f h) 𝓕 =
+      when-cases (λ o. o ≡ refused 10 t) (leb (numbersFor pool) (length b))
+      (λ e. absurd (let k = leb→le (numbersFor pool) (length b) (subst T (sym e) tt) in omega arith)) (λ e. passed (f .form) (refused 10 t))
+  lent-refused (long-line f h r l) 𝓕 = roomy r ∙ go (parsed t pool line)
+    where
+      go : {o : Outcome} → Parsed t pool line o → o ≡ refused 18 t
+      go (p-table g) = absurd (g (f .form))
+      go (p-pool g k) = absurd (omega arith)
+      go (p-line g k n) = refl
+      go (p-token g k n d) = absurd (omega arith)
+      go (p-read g k n d) = absurd (omega arith)
+  lent-refused (bad-token f h r l d) 𝓕 = roomy r ∙ go (parsed t pool line)
+    where
+      go : {o : Outcome} → Parsed t pool line o → o ≡ refused 19 t
+      go (p-table g) = absurd (g (f .form))
+      go (p-pool g k) = absurd (omega arith)
+      go (p-line g k n) = absurd (omega arith)
+      go (p-token g k n e) = refl
+      go (p-read g k n e) = absurd (d e)
+
+  -- it leaves all untouched
+  not-past : {a : Answer} → Refusal m (length b) pool line a → Past (numberOf a) → ⊥
+  not-past (bad-table f) q = between q (omega arith) (omega arith)
+  not-past (large-pool f h) q = between q (omega arith) (omega arith)
+  not-past (short-buffer f h) q = between q (omega arith) (omega arith)
+  not-past (long-line f h r l) q = between q (omega arith) (omega arith)
+  not-past (bad-token f h r l d) q = between q (omega arith) (omega arith)
+
+  bad-or : {a : Answer} → Refusal m (length b) pool line a → (Formed m → ⊥) → numberOf a ≡ 11
+  bad-or (bad-table f) d = refl
+  bad-or (large-pool f h) d = absurd (d f)
+  bad-or (short-buffer f h) d = absurd (d f)
+  bad-or (long-line f h r l) d = absurd (d f)
+  bad-or (bad-token f h r l e) d = absurd (d f)
+
+  pub parses-refused : {a : Answer} → Refusal m (length b) pool line a → Parses pool line m m b b (record { answer = a; links = 0 })
+  parses-refused r = record {
+    promised = record {
+      answer = λ 𝓕. ap (λ o. o .answer) (sym (lent-refused r 𝓕));
+      number = λ 𝓕. ap (λ o. o .number) (sym (lent-refused r 𝓕));
+      table = λ 𝓕. subst (λ o. Becomes m m (o .table)) (sym (lent-refused r 𝓕)) (kept-none 𝓕 .becomes);
+      no-table = λ d. (bad-or r d, refl, refl);
+    };
+    cleared = λ q. absurd (not-past r q);
+    untouched = λ d. refl;
+  }
+
+  -- ---- a parse that got past its checks
+
+  module _ (R : Readable pool line m (length b)) {n : Mem} {v : Verdict} (S : Reads pool line m n v) where
+    is : parse t pool line ≡ outcome (numberOf (v .answer)) (v .links) (view n)
+    is = outcome-of-steps t (R .formed .form) pool line (R .fits) _ .1 (S .steps)
+
+    lent : lentParse b pool line t ≡ outcome (numberOf (v .answer)) (v .links) (view n)
+    lent = roomy (R .roomy) ∙ is
+
+    past : Past (numberOf (v .answer))
+    past = go (subst (Answered line) (sym (past-checks t (R .formed .form) pool line (R .fits)) ∙ is) (parsing-answers pool t line (R .formed .form)))
+      where
+        go : Answered line (outcome (numberOf (v .answer)) (v .links) (view n)) → Past (numberOf (v .answer))
+        go (verdict-given a z) = ⊎-elim inl (λ e. inr (inl e)) a
+        go (no-room a z) = ⊎-elim (λ e. inr (inr (inl e))) (λ e. inr (inr (inr e))) a
+
+    pub parses-read : {c : List ℕ} → Cleared (numbersFor pool) b c → Parses pool line m n b c v
+    parses-read z = record {
+      promised = record {
+        answer = λ 𝓕. ap (λ o. o .answer) (sym lent);
+        number = λ 𝓕. ap (λ o. o .number) (sym lent);
+        table = λ 𝓕. subst (λ o. Becomes m n (o .table)) (sym lent) (S .kept .becomes);
+        no-table = λ d. absurd (d (R .formed));
+      };
+      cleared = λ q. z;
+      untouched = λ d. absurd (d past);
+    }
+
+-- ---- the pool's part lent and given back
+
+pub part-length : (n : ℕ) (b : List ℕ) → n ≤ length b → n ≡ length (take n b)
+part-length n b h = sym (length-take-le n b h)
+
+pub part-roomy : (n : ℕ) (b : List ℕ) → n ≤ length b → n ≤ length (take n b)
+part-roomy n b h = omega (arith, part-length n b h)
+
+pub part-cleared : {n : ℕ} {b c : List ℕ} (y : List ℕ) → n ≤ length b → length y ≡ length (take n b) → Cleared n (y ++ drop n b) c → Cleared n b c
+part-cleared {n} {b} y r l z = record { low = z .low; high = λ i h. z .high i h ∙ same i h }
+  where
+    same : (i : ℕ) → n ≤ i → getD (y ++ drop n b) i 0 ≡ getD b i 0
+    same i h =
+        let e : i ≡ length y + (i - n) = omega (arith, part-length n b r) in
+        let f : n + (i - n) ≡ i = omega arith in
+        ap (λ k. getD (y ++ drop n b) k 0) e ∙ getD-append-add y (drop n b) (i - n) 0 ∙ getD-drop n b (i - n) 0 ∙ ap (λ k. getD b k 0) f

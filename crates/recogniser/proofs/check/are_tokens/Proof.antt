@@ -1,0 +1,70 @@
+use mathlib.Core.Bool.{true}
+use mathlib.Core.Path.{_≡_}
+use Prim.Native.Nat.{_≤_, _-_}
+use native.Mathlib.Omega.{arith}
+use lib.ListN.{length, getD}
+use Rattle.laws.specs.Loops.{allBelow}
+use Rattle.laws.proofs.Loops.{all-none, all-end, all-fails, all-passes}
+use Rattle.symbols.specs.Symbol.{terminal}
+use Rattle.theory.specs.Calls.{allTokens}
+use borrow.Author.Needs.{needs}
+use Rattle.recogniser.proofs.check.are_tokens.Statement.{statement}
+use Rattle.recogniser.proofs.check.are_tokens.Tie as tie
+use Rattle.recogniser.proofs.check.are_tokens.Reads as reads
+use Rattle.recogniser.proofs.check.are_tokens.Lts as lts
+use Rattle.symbols.proofs.symbol.Symbol.is_terminal.Reads as is-terminal-reads
+
+abbrev Inv-loop : tie.InvT-loop
+Inv-loop line i₀ i = (i ≤ length line) × (allBelow i (λ k. terminal (getD line k 0)) ≡ true)
+
+abbrev μ-loop : tie.MeasureT-loop
+μ-loop line i₀ i = length line - i
+
+-- src/lib.rt:173:5
+loop-holds : tie.Need-loop-holds Inv-loop μ-loop
+loop-holds c = (omega arith, all-none _)
+
+-- src/lib.rt:174:20
+shared-slice-read-t6 : tie.Need-shared-slice-read-t6 Inv-loop μ-loop
+shared-slice-read-t6 c = search needs
+
+-- src/lib.rt:174:13
+is-terminal-requires : tie.Need-is-terminal-requires Inv-loop μ-loop
+is-terminal-requires c κs = search needs
+
+-- src/lib.rt:175:13
+returns : tie.Need-returns Inv-loop μ-loop
+unfolding allTokens
+returns c = all-fails _ (c .before .before .before .loop-test .taken) (c .before .is-terminal .ensures) (c .if1 .taken)
+
+-- src/lib.rt:177:9
+add-i : tie.Need-add-i Inv-loop μ-loop
+add-i c = search needs
+
+-- src/lib.rt:173:5
+loop-less : tie.Need-loop-less Inv-loop μ-loop
+loop-less c = search needs
+
+-- src/lib.rt:173:5
+loop-again : tie.Need-loop-again Inv-loop μ-loop
+loop-again c = (omega arith, all-passes _ (c .before .before .before .before .loop .inv .1) (c .before .is-terminal .ensures) (c .if1 .left))
+
+-- src/lib.rt:169:1
+returns-2 : tie.Need-returns-2 Inv-loop μ-loop
+unfolding allTokens
+returns-2 c = all-end _ (omega arith) (c .before .loop .inv .1)
+
+pub are-tokens-spec : {M : Type 1} → statement M
+are-tokens-spec =
+    tie.close
+    (tie.spec
+    Inv-loop
+    μ-loop
+    loop-holds
+    shared-slice-read-t6
+    is-terminal-requires
+    returns
+    add-i
+    loop-less
+    loop-again
+    returns-2)

@@ -1,0 +1,27 @@
+-- Parse's checks: "Parse checks 11, then 10 (links), 18, 19." Assumes nothing.
+use mathlib.Core.Path.{_≡_}
+use mathlib.Core.List.{List}
+use Prim.Native.Nat.{ℕ, _≤_, _<_}
+use lib.Dec.{T}
+use lib.ListN.{length}
+use Rattle.symbols.specs.declared.answer.Answer.{Answer}
+use Rattle.symbols.specs.declared.answer.Answer.the-variants.{BadPool, BadTable, LongLine, BadToken}
+use Rattle.theory.specs.Calls.{allTokens}
+use Rattle.table.specs.Layout.{Mem}
+use Rattle.table.specs.Laid.{Formed}
+use Rattle.recogniser.specs.Parse.{numbersFor}
+use Rattle.recogniser.specs.Reading.{Readable}
+use Rattle.recogniser.specs.declared.check.Checked.{Checked}
+use Rattle.recogniser.specs.declared.check.Checked.the-variants.{Passed, Refused}
+
+-- why a parse is refused, over a link buffer of so many numbers
+pub data Refusal (m : Mem) (room pool : ℕ) (line : List ℕ) : Answer → Type 0 where
+  bad-table : (Formed m → ⊥) → Refusal m room pool line BadTable
+  large-pool : Formed m → 4096 < pool → Refusal m room pool line BadPool
+  short-buffer : Formed m → room < numbersFor pool → Refusal m room pool line BadPool
+  long-line : Formed m → pool ≤ 4096 → numbersFor pool ≤ room → 255 < length line → Refusal m room pool line LongLine
+  bad-token : Formed m → pool ≤ 4096 → numbersFor pool ≤ room → length line ≤ 255 → (T (allTokens line) → ⊥) → Refusal m room pool line BadToken
+
+pub record Checks (m : Mem) (room pool : ℕ) (line : List ℕ) (r : Checked) : Type 0 where
+  pub passed : r ≡ Passed → Readable pool line m room
+  pub refused : (a : Answer) → r ≡ Refused a → Refusal m room pool line a

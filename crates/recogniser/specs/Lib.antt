@@ -1,0 +1,4 @@
+-- The definitions that the contracts cite.
+pub mod Parse
+pub mod Reading
+pub mod Check

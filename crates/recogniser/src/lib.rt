@@ -1,0 +1,88 @@
+// Parse: whether a line of tokens is one of the grammar's, by the graph of links (001's PAR-PARSE with its stacks shared).
+//
+// `parse` takes a table in its three lent slices, a lent link buffer with the size of its pool, and a line. It answers accept,
+// reject or a refusal, and the number of links in the graph at the end. The table need not be expanded: a set is expanded when
+// the line first comes to it and stays so for the lines to come. So the first lines on a fresh table are slow, and later ones
+// only read.
+//
+// A line costs the form test, which looks at every number of the table once; then the links that it makes, most often one a
+// token and one a reduction; and at the end the clearing of the pool's part of the buffer. A looping or ambiguous grammar costs
+// more links and never a second link between the same two nodes, so every parse ends and the pool bounds its memory. The stack
+// holds 25,094 bytes of work numbers, which `levels` and `links` ask for, whatever the pool.
+//
+// What is unusual: nothing is undone on a refusal. NO-SETS and NO-LINKS leave the expansions made, and a collection, so the
+// same line may succeed when it comes again with more room. Every number that lies beyond the pools, of the table or of the
+// buffer, is left as it was; the pool's part of the buffer is all zero after every parse that got past its checks.
+//
+// check.rt has the checks, line.rt the positions of a line. What `parse` promises stands in specs/Parse.antt, and what that says
+// of lines and grammars in proofs/Demands.antt.
+ghost use lib.ListN.{length};
+ghost use Rattle.table.specs.Layout.{mem};
+ghost use Rattle.links.specs.Held.{Cleared};
+ghost use Rattle.recogniser.specs.Parse.{numbersFor, Parses};
+ghost use Rattle.recogniser.specs.Reading.{Readable, Reads};
+use check::Checked;
+use symbols::Answer;
+
+mod check; // check.rt: what is refused before anything is touched
+mod line; // line.rt: the positions of a line, one after the other
+
+// The numbers of the link buffer that a record takes: a pool of n links needs n + 1 records.
+pub const RECORD: usize = 6;
+
+// What a parse answers: its answer, and the number of links in the graph at the end, 0 on a refusal.
+pub struct Verdict {
+    pub answer: Answer,
+    pub links: usize,
+}
+
+// Parses the line over a pool of so many links.
+pub fn parse(
+    rules: &mut [u8],
+    cells: &mut [u8],
+    words: &mut [u64],
+    links: &mut [u16],
+    pool: usize,
+    line: &[u8],
+) -> Verdict
+    ensures { λ v. ⌜ Parses pool (now (line .entry)) (mem (now (rules .entry)) (now (cells .entry)) (now (words .entry)))
+        (mem (now (rules .exit)) (now (cells .exit)) (now (words .exit))) (now (links .entry)) (now (links .exit)) v ⌝ }
+{
+    let c = check::check(rules, cells, words, links.len(), pool, line);
+    match c {
+        Checked::Refused(answer) => Verdict { answer, links: 0 },
+        Checked::Passed => run(rules, cells, words, links, pool, line),
+    }
+}
+
+// Reads a line that passed the checks, over the pool's part of the link buffer, and leaves that part zero. Here stand the work
+// numbers: 512 bytes for the map of `links`, 24,582 for the lists of `levels`.
+fn run(
+    rules: &mut [u8],
+    cells: &mut [u8],
+    words: &mut [u64],
+    links: &mut [u16],
+    pool: usize,
+    line: &[u8],
+) -> Verdict
+    requires { ⌜ Readable pool (now line) (mem (now rules) (now cells) (now words)) (length (now links)) ⌝ }
+    ensures { λ v. ⌜ Reads pool (now (line .entry)) (mem (now (rules .entry)) (now (cells .entry)) (now (words .entry)))
+        (mem (now (rules .exit)) (now (cells .exit)) (now (words .exit))) v
+        × Cleared (numbersFor pool) (now (links .entry)) (now (links .exit)) ⌝ }
+{
+    let n = (pool + 1) * RECORD;
+    let mut at: [u16; 256] = [0; 256];
+    let mut work: [u16; levels::WORK] = [0; levels::WORK];
+    let v = line::read(
+        rules,
+        cells,
+        words,
+        &mut links[..n],
+        &mut at,
+        &mut work,
+        line,
+        pool,
+    );
+    links::clear(links, n);
+    v
+}
