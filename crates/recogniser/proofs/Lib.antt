@@ -5,3 +5,4 @@ pub mod Settling
 pub mod Ends
 pub mod Positions
 pub mod Promise
+pub mod OneOutcome

@@ -1,0 +1,3 @@
+-- Begin with Demands.
+pub mod Demands
+pub mod Made
