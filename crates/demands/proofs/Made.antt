@@ -84,7 +84,7 @@ module _ {m n : Mem} {R : List Rule} {b c : List ℕ} (pool : ℕ) (line : List 
   pub outcome-is : numbersFor pool ≤ length b → calls.parse (view m) pool line ≡ outcome (numberOf (v .answer)) (v .links) (view n)
   outcome-is h =
       let q : calls.parse (view m) pool line ≡ lentParse b pool line (view m) =
-          when-cases (λ o. calls.parse (view m) pool line ≡ o) (leb (numbersFor pool) (length b)) (λ e. refl) (λ e. absurd (subst T e (le→leb (numbersFor pool) (length b) h))) in
+      when-cases (λ o. calls.parse (view m) pool line ≡ o) (leb (numbersFor pool) (length b)) (λ e. refl) (λ e. absurd (subst T e (le→leb (numbersFor pool) (length b) h))) in
       let a = p .promised .answer (H .formed) in
       let k = p .promised .number (H .formed) in
       let t = p .promised .table (H .formed) .seen in

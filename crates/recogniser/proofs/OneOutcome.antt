@@ -21,15 +21,15 @@ past-or-not : (a : ℕ) → Past a ⊎ (Past a → ⊥)
 past-or-not a = elim (ℕ-discrete a 1) [
   | yes e ↦ inl (inl e)
   | no d ↦ elim (ℕ-discrete a 2) [
-      | yes e ↦ inl (inr (inl e))
-      | no f ↦ elim (ℕ-discrete a 20) [
-          | yes e ↦ inl (inr (inr (inl e)))
-          | no g ↦ elim (ℕ-discrete a 21) [
-              | yes e ↦ inl (inr (inr (inr e)))
-              | no h ↦ inr (⊎-elim d (⊎-elim f (⊎-elim g h)))
-            ]
-        ]
+    | yes e ↦ inl (inr (inl e))
+    | no f ↦ elim (ℕ-discrete a 20) [
+      | yes e ↦ inl (inr (inr (inl e)))
+      | no g ↦ elim (ℕ-discrete a 21) [
+        | yes e ↦ inl (inr (inr (inr e)))
+        | no h ↦ inr (⊎-elim d (⊎-elim f (⊎-elim g h)))
+      ]
     ]
+  ]
 ]
 
 one-cleared : {n : ℕ} {b c c′ : List ℕ} → Cleared n b c → Cleared n b c′ → length c ≡ length c′ → c ≡ c′
@@ -41,10 +41,9 @@ pub one-outcome : {pool : ℕ} {line : List ℕ} {m n n′ : Mem} {b c c′ : Li
 one-outcome {v = v} {v′} p q l k =
     let (en, ea, ek) = form.one-outcome (p .promised) (q .promised) l in
     let e : v .answer ≡ v′ .answer = number-injective (v .answer) (v′ .answer) ea in
-    let back = subst Past (sym ea) in
-    (
+    let back = subst Past (sym ea) in (
       en,
       ⊎-elim (λ h. one-cleared (p .cleared h) (q .cleared (subst Past ea h)) k) (λ h. p .untouched h ∙ sym (q .untouched (λ z. h (back z))))
-      (past-or-not (numberOf (v .answer))),
+          (past-or-not (numberOf (v .answer))),
       λ i. record { answer = e i; links = ek i },
     )
