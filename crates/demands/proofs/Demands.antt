@@ -1,5 +1,5 @@
--- THE FRONT DOOR. Demands 1 to 3 of the real calls, after any sequence of real calls (`Run`). `view m` is the table that the lent
--- numbers m hold, R the rules that the accepted additions and withdrawals have left. Assumes nothing.
+-- Demands 1 to 3 of the real calls, after any sequence of real calls (`Run`). `view m` is the table that the lent numbers m hold, R
+-- the rules that the accepted additions and withdrawals have left. Assumes nothing.
 use mathlib.Core.Path.{_≡_}
 use mathlib.Core.Logic.{_↔_, _⊎_}
 use mathlib.Core.List.{List, [], _∷_, List·Memᴰ as In}
@@ -32,14 +32,12 @@ use Rattle.recogniser.proofs.OneOutcome as recogniser
 use Rattle.demands.specs.Run.{Run}
 use Rattle.demands.proofs.Made.{run-holds, of-parse, of-change}
 
--- ---- Demand 1: every call ends with an answer on any lent numbers and any arguments (no public call has a `requires`), each refusal
--- exactly when 01 says and with what 01 says (`Promised`); no second answer and no second list of numbers fits
-
+-- ---- Demand 1: every call ends with an answer on any numbers and arguments (no public call has a `requires`), each refusal exactly
+-- when 01 says and with what 01 says (`Promised`); no second answer and no second list of numbers fits
 pub new-once : {m n n′ : Mem} {s r a a′ : ℕ} → NewPromised m n s r a → NewPromised m n′ s r a′ → SameLengths n n′ → (n ≡ n′) × (a ≡ a′)
 new-once = generator.one-outcome
 
-pub call-once : {call : Table → Outcome} {m n n′ : Mem} {a a′ k k′ : ℕ} → Promised call m n a k → Promised call m n′ a′ k′ → SameLengths n n′
-    → (n ≡ n′) × (a ≡ a′) × (k ≡ k′)
+pub call-once : {call : Table → Outcome} {m n n′ : Mem} {a a′ k k′ : ℕ} → Promised call m n a k → Promised call m n′ a′ k′ → SameLengths n n′ → (n ≡ n′) × (a ≡ a′) × (k ≡ k′)
 call-once = form.one-outcome
 
 pub parse-once : {pool : ℕ} {line : List ℕ} {m n n′ : Mem} {b c c′ : List ℕ} {v v′ : Verdict} → Parses pool line m n b c v → Parses pool line m n′ b c′ v′
@@ -53,7 +51,7 @@ module _ {m n : Mem} {R : List Rule} (r : Run m R) {pool : ℕ} {line b c : List
   abbrev answer : ℕ
   answer = numberOf (v .answer)
 
-  -- it is accepted, refused for room, or else rejected: accepted exactly if START derives it by the table's current rules
+  -- where it is not refused for room it is accepted exactly if START derives it by the table's current rules
   pub verdict : (answer ≡ 1) ⊎ (answer ≡ 2) → (answer ≡ 1) ↔ Derives (grammar (view m .rules)) (START ∷ []) line
   verdict = of-parse r p room (λ o. (o .answer ≡ 1) ⊎ (o .answer ≡ 2) → (o .answer ≡ 1) ↔ Derives (grammar (view m .rules)) (START ∷ []) line)
       (λ h. demand2.verdict h pool line fits)
@@ -73,10 +71,9 @@ module _ {m n : Mem} {R : List Rule} (r : Run m R) {pool : ℕ} {line b c : List
   number-of-links = of-parse r p room (λ o. (o .answer ≡ 1) ⊎ (o .answer ≡ 2) → Size (o .table) line (o .number))
       (λ h a. demand2.number-of-links h pool line fits a .0)
 
--- ---- Demand 3: of the table after any sequence
+-- ---- Demand 3: of the table after any sequence, which is in form, so that no call on it answers 11
 
 module _ {m : Mem} {R : List Rule} (r : Run m R) where
-  -- it is in form, so no call on it answers 11
   pub formed : Formed m
   formed = run-holds r .formed
 

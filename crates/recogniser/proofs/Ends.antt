@@ -1,25 +1,22 @@
 -- A settled position's ways on: the verdict at the end of the line, else a token that no node takes, a link too many, or the next
 -- position. Assumes nothing.
-use mathlib.Core.Path.{_≡_, refl, sym, _∙_, ap, subst, subst₂}
-use mathlib.Core.Bool.{Bool, true, false}
+use mathlib.Core.Path.{_≡_, refl, sym, ap, subst, subst₂}
 use mathlib.Core.Logic.{_≢_, inl, inr, ⊎-elim}
 use mathlib.Core.List.{List, [], _∷_, List·Memᴰ as In, List·Memᴰ·cases-cons}
-use Prim.Native.Nat.{ℕ, suc, _+_, _≤_, _<_}
+use Prim.Native.Nat.{ℕ, suc, _≤_}
 use native.Mathlib.Numerals.{add-one}
 use native.Mathlib.Decide.{ℕ-discrete}
 use native.Mathlib.Omega.{arith}
 use lib.ListN.{length}
-use Rattle.laws.specs.Choice.{Tells}
 use Rattle.laws.specs.Lists.{addNew}
 use Rattle.laws.specs.Lists.Distinct.{one-more}
-use Rattle.laws.proofs.Choice.{tells-yes, tells-no}
 use Rattle.laws.proofs.Lists.{in-add, distinct-add}
-use Rattle.symbols.specs.declared.answer.Answer.{Answer}
-use Rattle.symbols.specs.declared.answer.Answer.the-variants.{Accept, Reject, NoSets, NoLinks}
 use Rattle.symbols.specs.Answer.{numberOf}
+use Rattle.symbols.specs.declared.answer.Answer.{Answer}
+use Rattle.symbols.specs.declared.answer.Answer.the-variants.{Accept, Reject, NoLinks}
 use Rattle.theory.specs.Table.{Table, target}
-use Rattle.theory.specs.Parse.{Link, link, sameLink, nodesAt, Outcome, outcome, shifts}
-use Rattle.theory.specs.Steps.{Shifted, Steps}
+use Rattle.theory.specs.Parse.{Link, link, sameLink, nodesAt, outcome, shifts}
+use Rattle.theory.specs.Steps.{Shifted}
 use Rattle.theory.specs.Steps.Steps.{accepts, rejects, stuck, shift-full, shifts as shifts-on}
 use Rattle.theory.proofs.Counting.{no-longer}
 use Rattle.theory.proofs.Exact.{same-link, in-nodesAt, in-shifts}
@@ -31,10 +28,9 @@ use Rattle.links.specs.Records.{Graph, graph, linksOf}
 use Rattle.links.proofs.Listed.{count}
 use Rattle.saturation.specs.Ends.{Shifts, Accepting}
 use Rattle.recogniser.specs.declared.Verdict.{Verdict}
-use Rattle.recogniser.specs.Reading.{Stands, Kept, Settles, Refuses, SettlesOr, Advances, AdvancesOr, Finishes}
+use Rattle.recogniser.specs.Reading.{Settles, Refuses, SettlesOr, Advances, AdvancesOr, Finishes}
 use Rattle.recogniser.specs.declared.line.Advanced.the-variants.{On, Ends}
-use Rattle.recogniser.specs.declared.line.Settled.{Settled}
-use Rattle.recogniser.specs.declared.line.Settled.the-variants.{Ready as ReadyWith, NoSets as NoSetsLeft, NoLinks as NoLinksLeft}
+use Rattle.recogniser.specs.declared.line.Settled.the-variants.{Ready as ReadyWith, Refused}
 
 abbrev verdict : Answer → ℕ → Verdict
 verdict a n = record { answer = a; links = n }
@@ -44,19 +40,21 @@ verdict a n = record { answer = a; links = n }
 module _ {h : Here} {m : Mem} {x : Graph} {n : Mem} {b at : List ℕ} where
   pub came-ready : {c : Counts} → Settles h m x n (graph b at c) → SettlesOr h m x n b at (ReadyWith c)
   came-ready {c} s = record {
-    ready = λ d e. subst (λ d. Settles h m x n (graph b at d)) (the c d e) s;
-    no-sets = λ e. absurd (let z : _≡_ {A = ℕ} 0 1 = cc in omega arith);
-    no-links = λ e. absurd (let z : _≡_ {A = ℕ} 0 1 = cc in omega arith);
+    ready = λ d e. subst (λ d. Settles h m x n (graph b at d)) (the e) s;
+    refused = λ a e. absurd (let z : _≡_ {A = ℕ} 0 1 = cc in omega arith);
   }
     where
-      the : (c d : Counts) → ReadyWith c ≡ ReadyWith d → c ≡ d
-      the c d e = cc
+      the : {d : Counts} → ReadyWith c ≡ ReadyWith d → c ≡ d
+      the e = cc
 
-  pub came-no-sets : Refuses h m x n 20 → SettlesOr h m x n b at NoSetsLeft
-  came-no-sets r = record { ready = λ d e. absurd (let z : _≡_ {A = ℕ} 0 1 = cc in omega arith); no-sets = λ e. r; no-links = λ e. absurd (let z : _≡_ {A = ℕ} 0 1 = cc in omega arith) }
-
-  pub came-no-links : Refuses h m x n 21 → SettlesOr h m x n b at NoLinksLeft
-  came-no-links r = record { ready = λ d e. absurd (let z : _≡_ {A = ℕ} 0 1 = cc in omega arith); no-sets = λ e. absurd (let z : _≡_ {A = ℕ} 0 1 = cc in omega arith); no-links = λ e. r }
+  pub came-refused : {a : Answer} → Refuses h m x n (numberOf a) → SettlesOr h m x n b at (Refused a)
+  came-refused {a} r = record {
+    ready = λ d e. absurd (let z : _≡_ {A = ℕ} 0 1 = cc in omega arith);
+    refused = λ a′ e. subst (λ a. Refuses h m x n (numberOf a)) (the e) r;
+  }
+    where
+      the : {a′ : Answer} → Refused a ≡ Refused a′ → a ≡ a′
+      the e = cc
 
   pub came-on : {k s : ℕ} {c : Counts} → Advances h k m x s n (graph b at c) → AdvancesOr h k m x n b at (On s c)
   came-on {k} {s} {c} a = record {
@@ -81,11 +79,8 @@ module _ {h : Here} {m : Mem} {x : Graph} {n : Mem} {b at : List ℕ} where
 
 -- ---- a position that was not settled
 
-pub without-sets : {h : Here} {m : Mem} {x : Graph} {n : Mem} → Refuses h m x n 20 → (w : List ℕ) → Finishes h w m x n (verdict NoSets 0)
-without-sets r w = record { kept = r .kept; steps = r .steps w }
-
-pub without-links : {h : Here} {m : Mem} {x : Graph} {n : Mem} → Refuses h m x n 21 → (w : List ℕ) → Finishes h w m x n (verdict NoLinks 0)
-without-links r w = record { kept = r .kept; steps = r .steps w }
+pub refuses : {h : Here} {m : Mem} {x : Graph} {n : Mem} (a : Answer) → Refuses h m x n (numberOf a) → (w : List ℕ) → Finishes h w m x n (verdict a 0)
+refuses a r w = record { kept = r .kept; steps = r .steps w }
 
 -- ---- a settled one
 

@@ -1,18 +1,17 @@
 -- An expansion on the lent numbers keeps the form, the sizes and what lies beyond the pools, and so do expansions in a row. Assumes nothing.
-use mathlib.Core.Path.{_≡_, refl, sym, _∙_, ap, subst}
+use mathlib.Core.Path.{_≡_, refl, sym, _∙_, ap}
 use mathlib.Core.Bool.{Bool}
 use Prim.Native.Nat.{ℕ}
 use native.Mathlib.Omega.{arith}
 use lib.ListN.{length, length-map}
 use Rattle.laws.proofs.Tables.{length-tab}
 use Rattle.theory.specs.Table.{Table}
-use Rattle.theory.specs.Form.{InForm}
 use Rattle.theory.specs.Expansion.{freed, expand}
-use Rattle.theory.proofs.Later.{Later, expand-cases, expand-later}
-use Rattle.theory.proofs.FormGrown.{expand-in-form}
+use Rattle.theory.proofs.Later.{expand-cases}
 use Rattle.table.specs.Layout.{Mem, setsIn, rulesIn, view}
 use Rattle.table.specs.Laid.{Formed}
 use Rattle.expansion.specs.Expansion.{Expandable, Expands}
+use Rattle.expansion.proofs.Promises.{expand-formed, expand-keeps}
 use Rattle.recogniser.specs.Reading.{Kept}
 
 sets-seen : (m : Mem) → length (view m .sets) ≡ setsIn (m .rules)
@@ -46,17 +45,10 @@ kept-trans f g = record {
   rules = g .rules ∙ f .rules;
 }
 
-module _ {m n : Mem} {u : ℕ} {r : Bool} (E : Expandable m u) (X : Expands m n u r) where
-  pub expanded-later : Later (view m) (view n)
-  expanded-later = subst (Later (view m)) (sym (X .table .seen)) (expand-later (view m) (E .is .formed .form) u (E .reached) (E .is .bare))
-
-  pub kept-expanded : Kept m n
-  kept-expanded = record {
-    formed = record {
-      laid = X .table .laid;
-      form = subst InForm (sym (X .table .seen)) (expand-in-form (view m) (E .is .formed .form) u (E .reached) (E .is .bare));
-    };
-    becomes = record { laid = X .table .laid; seen = refl; rules = X .table .rules; cells = X .table .cells; words = X .table .words };
-    sets = sym (sets-seen n) ∙ expanded-later .size ∙ sets-seen m;
-    rules = sym (rules-seen n) ∙ ap (λ t. length (t .rules)) (X .table .seen) ∙ same-rules (view m) u ∙ rules-seen m;
-  }
+pub kept-expanded : {m n : Mem} {u : ℕ} {r : Bool} → Expandable m u → Expands m n u r → Kept m n
+kept-expanded {m} {n} {u} E X = record {
+  formed = expand-formed E X;
+  becomes = record { laid = X .table .laid; seen = refl; rules = X .table .rules; cells = X .table .cells; words = X .table .words };
+  sets = sym (sets-seen n) ∙ expand-keeps E X .size ∙ sets-seen m;
+  rules = sym (rules-seen n) ∙ ap (λ t. length (t .rules)) (X .table .seen) ∙ same-rules (view m) u ∙ rules-seen m;
+}

@@ -1,12 +1,12 @@
 -- No second outcome fits Parse's promise: answer, number, and every number of the table and of the link buffer are determined.
 -- Assumes nothing.
-use mathlib.Core.Path.{_≡_, sym, _∙_, ap, subst}
+use mathlib.Core.Path.{_≡_, sym, _∙_, subst}
 use mathlib.Core.Logic.{_⊎_, inl, inr, ⊎-elim}
 use mathlib.Core.List.{List}
-use Prim.Native.Nat.{ℕ, _≤_, _<_}
+use Prim.Native.Nat.{ℕ}
 use native.Mathlib.Decide.{ℕ-discrete, decLt}
 use native.Mathlib.Omega.{arith}
-use lib.ListN.{length, getD}
+use lib.ListN.{length}
 use lib.Seq.{ext-getD}
 use Rattle.symbols.specs.Answer.{numberOf}
 use Rattle.symbols.proofs.Answers.{number-injective}
@@ -15,7 +15,7 @@ use Rattle.table.proofs.OneOutcome.{SameLengths}
 use Rattle.form.proofs.OneOutcome as form
 use Rattle.links.specs.Held.{Cleared}
 use Rattle.recogniser.specs.declared.Verdict.{Verdict}
-use Rattle.recogniser.specs.Parse.{numbersFor, Past, Parses}
+use Rattle.recogniser.specs.Parse.{Past, Parses}
 
 past-or-not : (a : ℕ) → Past a ⊎ (Past a → ⊥)
 past-or-not a = elim (ℕ-discrete a 1) [

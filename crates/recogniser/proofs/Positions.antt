@@ -1,6 +1,5 @@
 -- The positions of a line one after the other: what holds at each, the first, the next, and the ends. Assumes nothing.
-use mathlib.Core.Path.{_≡_, refl, sym, _∙_, ap, subst}
-use mathlib.Core.Bool.{Bool, false}
+use mathlib.Core.Path.{_≡_, sym, _∙_, ap, subst}
 use mathlib.Core.List.{List, [], _∷_}
 use Prim.Native.Nat.{ℕ, suc, _+_, _≤_, _<_}
 use native.Mathlib.Numerals.{add-one}
@@ -11,7 +10,7 @@ use lib.Seq.{drop-cons, drop-length}
 use Rattle.laws.proofs.Tests.{tests, all-below}
 use Rattle.symbols.specs.Answer.{numberOf}
 use Rattle.symbols.specs.Symbol.{terminal}
-use Rattle.theory.specs.Parse.{Outcome, outcome}
+use Rattle.theory.specs.Parse.{outcome}
 use Rattle.theory.specs.Steps.{Steps}
 use Rattle.theory.specs.Calls.{allTokens}
 use Rattle.theory.proofs.Grounded.{Grounded, grounded}

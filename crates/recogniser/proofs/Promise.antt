@@ -1,7 +1,7 @@
 -- What Parse promises follows from its checks and from the steps that it did. Assumes nothing.
 use mathlib.Core.Path.{_≡_, refl, sym, _∙_, ap, subst}
-use mathlib.Core.Bool.{Bool, true, false}
-use mathlib.Core.Logic.{_⊎_, inl, inr, ⊎-elim}
+use mathlib.Core.Bool.{Bool, false}
+use mathlib.Core.Logic.{inl, inr, ⊎-elim}
 use mathlib.Core.List.{List, _++_}
 use Prim.Native.Nat.{ℕ, _+_, _-_, _≤_, _<_}
 use native.Mathlib.Omega.{arith}
@@ -10,13 +10,11 @@ use lib.ListN.{length, getD, take, drop}
 use lib.Seq.{length-take-le, getD-append-add, getD-drop}
 use Rattle.laws.proofs.Choice.{when-cases}
 use Rattle.symbols.specs.declared.answer.Answer.{Answer}
-use Rattle.symbols.specs.declared.answer.Answer.the-variants.{BadPool, BadTable, LongLine, BadToken}
 use Rattle.symbols.specs.Answer.{numberOf}
 use Rattle.theory.specs.Table.{Table}
 use Rattle.theory.specs.Form.{InForm, inForm}
 use Rattle.theory.specs.Parse.{Outcome, outcome}
-use Rattle.theory.specs.Calls.{refused, checked, parse, allTokens}
-use Rattle.theory.specs.Answers.{Fits}
+use Rattle.theory.specs.Calls.{refused, checked, parse}
 use Rattle.theory.proofs.Form.{in-form}
 use Rattle.theory.proofs.Checks.{Parsed, parsed}
 use Rattle.theory.proofs.Checks.Parsed.{bad-table as p-table, bad-pool as p-pool, long-line as p-line, bad-token as p-token, read as p-read}
@@ -28,8 +26,7 @@ use Rattle.table.specs.Laid.{Formed}
 use Rattle.table.specs.Becomes.{Becomes}
 use Rattle.links.specs.Held.{Cleared}
 use Rattle.recogniser.specs.declared.Verdict.{Verdict}
-use Rattle.recogniser.specs.declared.check.Checked.{Checked}
-use Rattle.recogniser.specs.declared.check.Checked.the-variants.{Passed, Refused}
+use Rattle.recogniser.specs.declared.refusals.Checked.the-variants.{Passed, Refused}
 use Rattle.recogniser.specs.Parse.{numbersFor, lentParse, Past, Parses}
 use Rattle.recogniser.specs.Reading.{Readable, Reads}
 use Rattle.recogniser.specs.Check.{Refusal, Checks}

@@ -2,31 +2,24 @@
 -- one more expanded set of a node here, so the turns end. Assumes nothing.
 use mathlib.Core.Path.{_≡_, refl, sym, _∙_, ap, subst}
 use mathlib.Core.Bool.{Bool, true, false, not}
-use mathlib.Core.Logic.{_≢_, ⊎-elim}
-use mathlib.Core.List.{List, [], _∷_, List·Memᴰ as In, List·Memᴰ·cases-cons, Memᴰ·cast}
-use Prim.Native.Nat.{ℕ, zero, suc, _+_, _-_, _≤_, _<_, zero-le}
-use native.Mathlib.Decide.{decLt}
+use mathlib.Core.Logic.{_≢_}
+use mathlib.Core.List.{List, []}
+use Prim.Native.Nat.{ℕ, _≤_, _<_}
 use native.Mathlib.Omega.{arith}
 use borrow.Author.Tests.{not-true, not-false}
-use lib.Dec.{T, eqb}
-use lib.ListN.{length, List·getD-eq-default}
-use Rattle.laws.specs.Lists.{keep, upFrom, Distinct}
-use Rattle.laws.proofs.Lists.{in-keep, in-up, distinct-add}
-use Rattle.laws.proofs.Tests.{eqb-iff}
-use Rattle.theory.specs.Table.{UNEXPANDED, EXPANDED, Table, setAt, Reach}
+use lib.ListN.{length}
+use Rattle.theory.specs.Table.{Table, Reach}
 use Rattle.theory.specs.Table.Reach.{at-start}
-use Rattle.theory.specs.Expansion.{expand}
-use Rattle.theory.specs.Parse.{Link, nodesAt, Outcome, outcome}
+use Rattle.theory.specs.Parse.{Link, outcome}
 use Rattle.theory.specs.Steps.{Saturated, Lowest, Steps}
 use Rattle.theory.specs.Steps.Linked.{given}
 use Rattle.theory.specs.Steps.Steps.{no-links, no-sets, expands}
-use Rattle.theory.proofs.Counting.{no-longer}
 use Rattle.theory.proofs.Exact.{NodeIn, in-nodesAt}
 use Rattle.theory.proofs.Exact.NodeIn.{root-in, source-in}
-use Rattle.theory.proofs.Later.{Later, expand-done}
+use Rattle.theory.proofs.Later.{Later}
 use Rattle.theory.proofs.Saturation.{saturation}
 use Rattle.theory.proofs.Grounded.{Grounded, saturated-grounded, later-grounded, lowest-reach}
-use Rattle.table.specs.Layout.{Mem, setsIn, view}
+use Rattle.table.specs.Layout.{Mem, view}
 use Rattle.links.specs.declared.Here.{Here}
 use Rattle.links.specs.Records.{Graph, linksOf}
 use Rattle.links.proofs.Listed.{count}
@@ -34,8 +27,9 @@ use Rattle.saturation.specs.Ends.{Saturates, Waiting}
 use Rattle.kernels.specs.declared.Found.{Found}
 use Rattle.kernels.specs.declared.Found.the-variants.{At, Nothing}
 use Rattle.expansion.specs.Expansion.{Expandable, Expands}
+use Rattle.expansion.proofs.Promises.{expand-keeps, expand-expanded}
 use Rattle.recogniser.specs.Reading.{Stands, Kept, Leads, Settles, Refuses}
-use Rattle.recogniser.proofs.Kept.{kept-none, kept-trans, kept-expanded, expanded-later}
+use Rattle.recogniser.proofs.Kept.{kept-none, kept-trans, kept-expanded}
 use Rattle.recogniser.proofs.Turns.{turnsLeft, fewer-turns}
 
 node-reach : {t : Table} {p i u : ℕ} {ls : List Link} → Grounded t p ls → NodeIn ls i u → Reach t u
@@ -106,11 +100,11 @@ module _ {h : Here} {m : Mem} {x : Graph} {n : Mem} {y z : Graph} (I : Settling 
       }
 
       module _ {n′ : Mem} {r : Bool} (X : Expands n n′ u r) (q : not r ≡ false) where
-        done : expand t u .done ≡ true
-        done = sym (X .done) ∙ not-false r q
+        done : r ≡ true
+        done = not-false r q
 
         later : Later t (view n′)
-        later = expanded-later settling-expandable X
+        later = expand-keeps settling-expandable X
 
         -- "and go to 1"
         pub settling-next : Settling h m x n′ z
@@ -125,11 +119,10 @@ module _ {h : Here} {m : Mem} {x : Graph} {n : Mem} {y z : Graph} (I : Settling 
                 in-pool = e;
                 grounded = later-grounded (I .stands .formed .form) later (saturated-grounded (I .stands .grounded) saturated);
               };
-              back = λ l o k. I .back l o (expands saturated fits w done (subst (λ t. Steps (h .size) t p (linksOf z) l o) (X .table .seen) k));
+              back = λ l o k. I .back l o (expands saturated fits w (sym (X .done) ∙ done) (subst (λ t. Steps (h .size) t p (linksOf z) l o) (X .table .seen) k));
             }
 
         pub settling-less : turnsLeft (view n′) (linksOf z) p < turnsLeft t (linksOf y) p
         settling-less = fewer-turns t (view n′) (linksOf y) (linksOf z) p u
             (λ s i. node-reach (I .stands .grounded) (in-nodesAt (linksOf y) p .0 i)) later (λ l i. saturated .all l .1 (given i)) (w .here) (w .unexpanded)
-            (subst (λ t. setAt (t .sets) u .state ≡ EXPANDED) (sym (X .table .seen))
-            (expand-done t (I .stands .formed .form) u (settling-expandable .reached) (w .unexpanded) (subst T (sym done) tt)))
+            (expand-expanded settling-expandable X done)

@@ -1,19 +1,19 @@
 -- The turns at a position end: the sets of its nodes that are expanded stay so, and each turn but the last adds one. Assumes nothing.
 use mathlib.Core.Path.{_≡_, refl, sym, _∙_, ap, subst}
 use mathlib.Core.Bool.{Bool, true, false}
-use mathlib.Core.Logic.{_≢_, ⊎-elim}
-use mathlib.Core.List.{List, [], _∷_, map, List·Memᴰ as In, List·Memᴰ·not-nil, List·Memᴰ·cases-cons}
-use Prim.Native.Nat.{ℕ, zero, suc, _+_, _-_, _≤_, _<_, zero-le}
+use mathlib.Core.Logic.{⊎-elim}
+use mathlib.Core.List.{List, [], map, List·Memᴰ as In, List·Memᴰ·not-nil, List·Memᴰ·cases-cons}
+use Prim.Native.Nat.{ℕ, zero, suc, _-_, _≤_, _<_, zero-le}
 use native.Mathlib.Decide.{decLt}
 use native.Mathlib.Omega.{arith}
-use lib.Dec.{T, eqb}
+use lib.Dec.{eqb}
 use lib.ListN.{length, List·getD-eq-default}
 use Rattle.laws.specs.Choice.{when}
 use Rattle.laws.specs.Lists.{consIf, keep, upFrom, Distinct}
 use Rattle.laws.specs.Lists.Distinct.{none, one-more}
 use Rattle.laws.proofs.Lists.{in-keep, in-up, distinct-add}
 use Rattle.laws.proofs.Tests.{eqb-iff}
-use Rattle.theory.specs.Table.{UNEXPANDED, EXPANDED, Table, SetPlace, freeSet, setAt, Reach}
+use Rattle.theory.specs.Table.{UNEXPANDED, EXPANDED, Table, freeSet, setAt, Reach}
 use Rattle.theory.specs.Parse.{Link, nodesAt}
 use Rattle.theory.proofs.Counted.{distinct-keep}
 use Rattle.theory.proofs.Counting.{no-longer}

@@ -11,8 +11,8 @@ use Rattle.table.specs.Layout.{Mem}
 use Rattle.table.specs.Laid.{Formed}
 use Rattle.recogniser.specs.Parse.{numbersFor}
 use Rattle.recogniser.specs.Reading.{Readable}
-use Rattle.recogniser.specs.declared.check.Checked.{Checked}
-use Rattle.recogniser.specs.declared.check.Checked.the-variants.{Passed, Refused}
+use Rattle.recogniser.specs.declared.refusals.Checked.{Checked}
+use Rattle.recogniser.specs.declared.refusals.Checked.the-variants.{Passed, Refused}
 
 -- why a parse is refused, over a link buffer of so many numbers
 pub data Refusal (m : Mem) (room pool : ℕ) (line : List ℕ) : Answer → Type 0 where

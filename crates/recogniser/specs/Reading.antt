@@ -2,6 +2,7 @@
 use mathlib.Core.Path.{_≡_}
 use mathlib.Core.List.{List, [], _∷_}
 use Prim.Native.Nat.{ℕ, suc, _≤_}
+use Rattle.symbols.specs.declared.answer.Answer.{Answer}
 use Rattle.symbols.specs.Answer.{numberOf}
 use Rattle.theory.specs.Table.{Table}
 use Rattle.theory.specs.Parse.{Link, Outcome, outcome}
@@ -19,7 +20,7 @@ use Rattle.saturation.specs.Ends.{next}
 use Rattle.recogniser.specs.Parse.{numbersFor}
 use Rattle.recogniser.specs.declared.Verdict.{Verdict}
 use Rattle.recogniser.specs.declared.line.Settled.{Settled}
-use Rattle.recogniser.specs.declared.line.Settled.the-variants.{Ready as ReadyWith, NoSets, NoLinks}
+use Rattle.recogniser.specs.declared.line.Settled.the-variants.{Ready as ReadyWith, Refused}
 use Rattle.recogniser.specs.declared.line.Advanced.{Advanced}
 use Rattle.recogniser.specs.declared.line.Advanced.the-variants.{On, Ends}
 
@@ -58,8 +59,7 @@ pub record Refuses (h : Here) (m : Mem) (x : Graph) (n : Mem) (a : ℕ) : Type 0
 -- what steps 1 and 2 came to
 pub record SettlesOr (h : Here) (m : Mem) (x : Graph) (n : Mem) (b at : List ℕ) (s : Settled) : Type 0 where
   pub ready : (c : Counts) → s ≡ ReadyWith c → Settles h m x n (graph b at c)
-  pub no-sets : s ≡ NoSets → Refuses h m x n 20
-  pub no-links : s ≡ NoLinks → Refuses h m x n 21
+  pub refused : (a : Answer) → s ≡ Refused a → Refuses h m x n (numberOf a)
 
 -- the next position, after the token k; its nodes are those from s on
 pub record Advances (h : Here) (k : ℕ) (m : Mem) (x : Graph) (s : ℕ) (n : Mem) (y : Graph) : Type 0 where
@@ -76,6 +76,13 @@ pub record Finishes (h : Here) (w : List ℕ) (m : Mem) (x : Graph) (n : Mem) (v
 pub record AdvancesOr (h : Here) (k : ℕ) (m : Mem) (x : Graph) (n : Mem) (b at : List ℕ) (a : Advanced) : Type 0 where
   pub on : (s : ℕ) (c : Counts) → a ≡ On s c → Advances h k m x s n (graph b at c)
   pub ends : (v : Verdict) → a ≡ Ends v → (w : List ℕ) → Finishes h (k ∷ w) m x n v
+
+-- the same two of a settled position, whatever place it was settled from
+abbrev pub MovesOn : Here → ℕ → Mem → Graph → List ℕ → List ℕ → Advanced → Type 0
+MovesOn h k n y b at a = (m : Mem) (x : Graph) → Settles h m x n y → AdvancesOr h k m x n b at a
+
+abbrev pub Judges : Here → Mem → List ℕ → Counts → Verdict → Type 0
+Judges h n b c v = (m : Mem) (x : Graph) (at : List ℕ) → Settles h m x n (graph b at c) → Finishes h [] m x n v
 
 -- what reading a line asks for: a table in form, room for the pool's records, and a line that Parse's checks let pass
 pub record Readable (pool : ℕ) (line : List ℕ) (m : Mem) (room : ℕ) : Type 0 where

@@ -14,17 +14,17 @@
 // same line may succeed when it comes again with more room. Every number that lies beyond the pools, of the table or of the
 // buffer, is left as it was; the pool's part of the buffer is all zero after every parse that got past its checks.
 //
-// check.rt has the checks, line.rt the positions of a line. What `parse` promises stands in specs/Parse.antt, and what that says
-// of lines and grammars in proofs/Demands.antt.
+// refusals.rt has the checks, line.rt the positions of a line. What `parse` promises stands in specs/Parse.antt, and what that says
+// of lines and grammars in the crate `demands`.
 ghost use lib.ListN.{length};
 ghost use Rattle.table.specs.Layout.{mem};
 ghost use Rattle.links.specs.Held.{Cleared};
 ghost use Rattle.recogniser.specs.Parse.{numbersFor, Parses};
 ghost use Rattle.recogniser.specs.Reading.{Readable, Reads};
-use check::Checked;
+use refusals::Checked;
 use symbols::Answer;
 
-mod check; // check.rt: what is refused before anything is touched
+mod refusals; // refusals.rt: what is refused before anything is touched
 mod line; // line.rt: the positions of a line, one after the other
 
 // The numbers of the link buffer that a record takes: a pool of n links needs n + 1 records.
@@ -48,7 +48,7 @@ pub fn parse(
     ensures { λ v. ⌜ Parses pool (now (line .entry)) (mem (now (rules .entry)) (now (cells .entry)) (now (words .entry)))
         (mem (now (rules .exit)) (now (cells .exit)) (now (words .exit))) (now (links .entry)) (now (links .exit)) v ⌝ }
 {
-    let c = check::check(rules, cells, words, links.len(), pool, line);
+    let c = refusals::check(rules, cells, words, links.len(), pool, line);
     match c {
         Checked::Refused(answer) => Verdict { answer, links: 0 },
         Checked::Passed => run(rules, cells, words, links, pool, line),

@@ -1,10 +1,19 @@
+// The positions of a line. A position is settled: its links saturated and the sets of its nodes expanded, in turn, until neither
+// brings anything new. Then its token is shifted, or at the end of the line the accept mark looked for.
+//
+// `buf` is the pool's part of the link buffer, `at` and `work` are the work numbers of `links` and `levels`. Each function hands the
+// counts of nodes and links on by value. What each promises is said by the steps of theory/specs/Steps.antt: whatever the steps from
+// the place that is left come to, the steps from the place that was entered come to. So `read` has, in the end, 01's steps from the
+// first position to the verdict.
 ghost use mathlib.Core.List.{[]};
 ghost use mathlib.Core.Path.{_≡_};
 ghost use Prim.Native.Nat.{_≤_, _<_};
 ghost use lib.ListN.{length};
-ghost use Rattle.table.specs.Layout.{mem};
+ghost use Rattle.table.specs.Layout.{mem, setsIn};
 ghost use Rattle.links.specs.Records.{graph};
-ghost use Rattle.recogniser.specs.Reading.{Stands, SettlesOr, AdvancesOr, Finishes, Readable, Reads};
+ghost use Rattle.recogniser.specs.Reading.{Stands, SettlesOr, AdvancesOr, MovesOn, Finishes, Judges, Readable, Reads};
+ghost use Rattle.saturation.specs.Ends.{Standing};
+ghost use Rattle.table.specs.Laid.{Formed};
 use super::Verdict;
 use kernels::Found;
 use links::Counts;
@@ -14,8 +23,7 @@ use symbols::Answer;
 // What came of settling a position.
 pub enum Settled {
     Ready(Counts),
-    NoSets,
-    NoLinks,
+    Refused(Answer),
 }
 
 // What came of a position before the last: the next position, with its first node, or the end of the parse.
@@ -37,7 +45,8 @@ pub fn read(
 ) -> Verdict
     requires { ⌜ Readable size (now line) (mem (now rules) (now cells) (now words)) (length (now buf)) ⌝ }
     requires { ⌜ (length (now at) ≡ 256) × (length (now work) ≡ 12291) ⌝ }
-    ensures { λ v. ⌜ Reads size (now (line .entry)) (mem (now (rules .entry)) (now (cells .entry)) (now (words .entry))) (mem (now (rules .exit)) (now (cells .exit)) (now (words .exit))) v ⌝ }
+    ensures { λ v. ⌜ Reads size (now (line .entry)) (mem (now (rules .entry)) (now (cells .entry)) (now (words .entry)))
+        (mem (now (rules .exit)) (now (cells .exit)) (now (words .exit))) v ⌝ }
 {
     let sets = table::sets_in(rules);
     let mut c = links::begin(buf, at, size, sets);
@@ -79,7 +88,7 @@ pub fn read(
     finish(rules, cells, words, buf, at, work, c, last)
 }
 
-// A position before the last: settles it and shifts its token.
+// A position before the last: settles it and moves on.
 fn advance(
     rules: &mut [u8],
     cells: &mut [u8],
@@ -93,38 +102,49 @@ fn advance(
 ) -> Advanced
     requires { ⌜ Stands here (mem (now rules) (now cells) (now words)) (graph (now buf) (now at) c) × (length (now work) ≡ 12291) ⌝ }
     requires { ⌜ (here .position < 255) × ((1 ≤ token) × (token < 128)) ⌝ }
-    ensures { λ r. ⌜ AdvancesOr here token (mem (now (rules .entry)) (now (cells .entry)) (now (words .entry))) (graph (now (buf .entry)) (now (at .entry)) c) (mem (now (rules .exit)) (now (cells .exit)) (now (words .exit))) (now (buf .exit)) (now (at .exit)) r ⌝ }
+    ensures { λ r. ⌜ AdvancesOr here token (mem (now (rules .entry)) (now (cells .entry)) (now (words .entry))) (graph (now (buf .entry)) (now (at .entry)) c)
+        (mem (now (rules .exit)) (now (cells .exit)) (now (words .exit))) (now (buf .exit)) (now (at .exit)) r ⌝ }
 {
     let s = settle(rules, cells, words, buf, at, work, c, here);
     match s {
-        Settled::NoSets => Advanced::Ends(Verdict {
-            answer: Answer::NoSets,
-            links: 0,
-        }),
-        Settled::NoLinks => Advanced::Ends(Verdict {
-            answer: Answer::NoLinks,
-            links: 0,
-        }),
-        Settled::Ready(d) => {
-            let e = saturation::shift(buf, at, rules, cells, words, d, here, token);
-            if e.over != 0 {
-                return Advanced::Ends(Verdict {
-                    answer: Answer::NoLinks,
-                    links: 0,
-                });
-            }
-            if e.links == d.links {
-                return Advanced::Ends(Verdict {
-                    answer: Answer::Reject,
-                    links: d.links,
-                });
-            }
-            Advanced::On(d.nodes, e)
-        }
+        Settled::Refused(answer) => Advanced::Ends(Verdict { answer, links: 0 }),
+        Settled::Ready(d) => move_on(buf, at, rules, cells, words, d, here, token),
     }
 }
 
-// The last position: settles it and looks for the accept mark.
+// Shifts the token at a settled position: to the next one, if a node here takes it and its links fit.
+fn move_on(
+    buf: &mut [u16],
+    at: &mut [u16],
+    rules: &[u8],
+    cells: &[u8],
+    words: &[u64],
+    c: Counts,
+    here: Here,
+    token: usize,
+) -> Advanced
+    requires { ⌜ Stands here (mem (now rules) (now cells) (now words)) (graph (now buf) (now at) c) ⌝ }
+    requires { ⌜ (here .position < 255) × ((1 ≤ token) × (token < 128)) ⌝ }
+    ensures { λ r. ⌜ MovesOn here token (mem (now (rules .entry)) (now (cells .entry)) (now (words .entry))) (graph (now (buf .entry)) (now (at .entry)) c)
+        (now (buf .exit)) (now (at .exit)) r ⌝ }
+{
+    let d = saturation::shift(buf, at, rules, cells, words, c, here, token);
+    if d.over != 0 {
+        return Advanced::Ends(Verdict {
+            answer: Answer::NoLinks,
+            links: 0,
+        });
+    }
+    if d.links == c.links {
+        return Advanced::Ends(Verdict {
+            answer: Answer::Reject,
+            links: c.links,
+        });
+    }
+    Advanced::On(c.nodes, d)
+}
+
+// The last position: settles it and judges.
 fn finish(
     rules: &mut [u8],
     cells: &mut [u8],
@@ -136,34 +156,36 @@ fn finish(
     here: Here,
 ) -> Verdict
     requires { ⌜ Stands here (mem (now rules) (now cells) (now words)) (graph (now buf) (now at) c) × (length (now work) ≡ 12291) ⌝ }
-    ensures { λ v. ⌜ Finishes here [] (mem (now (rules .entry)) (now (cells .entry)) (now (words .entry))) (graph (now (buf .entry)) (now (at .entry)) c) (mem (now (rules .exit)) (now (cells .exit)) (now (words .exit))) v ⌝ }
+    ensures { λ v. ⌜ Finishes here [] (mem (now (rules .entry)) (now (cells .entry)) (now (words .entry))) (graph (now (buf .entry)) (now (at .entry)) c)
+        (mem (now (rules .exit)) (now (cells .exit)) (now (words .exit))) v ⌝ }
 {
     let s = settle(rules, cells, words, buf, at, work, c, here);
     match s {
-        Settled::NoSets => Verdict {
-            answer: Answer::NoSets,
-            links: 0,
-        },
-        Settled::NoLinks => Verdict {
-            answer: Answer::NoLinks,
-            links: 0,
-        },
-        Settled::Ready(d) => {
-            if saturation::accepts(buf, rules, cells, words, d, here) {
-                return Verdict {
-                    answer: Answer::Accept,
-                    links: d.links,
-                };
-            }
-            Verdict {
-                answer: Answer::Reject,
-                links: d.links,
-            }
-        }
+        Settled::Refused(answer) => Verdict { answer, links: 0 },
+        Settled::Ready(d) => judge(buf, rules, cells, words, d, here),
     }
 }
 
-// Settles this position: saturates it, expands the lowest-numbered unexpanded set of a node here, and again, until there is none.
+// The verdict at a settled position: accept if a node here has the accept mark.
+fn judge(buf: &[u16], rules: &[u8], cells: &[u8], words: &[u64], c: Counts, here: Here) -> Verdict
+    requires { ⌜ Standing here (now buf) c ⌝ }
+    requires { ⌜ Formed (mem (now rules) (now cells) (now words)) × (here .sets ≡ setsIn (now rules)) ⌝ }
+    ensures { λ v. ⌜ Judges here (mem (now (rules .entry)) (now (cells .entry)) (now (words .entry))) (now (buf .entry)) c v ⌝ }
+{
+    if saturation::accepts(buf, rules, cells, words, c, here) {
+        return Verdict {
+            answer: Answer::Accept,
+            links: c.links,
+        };
+    }
+    Verdict {
+        answer: Answer::Reject,
+        links: c.links,
+    }
+}
+
+// Settles a position: saturates it, expands the lowest-numbered unexpanded set of a node here, and again, until there is none. A
+// set that was expanded stays so, so there are at most as many turns as the pool has sets, and one more.
 fn settle(
     rules: &mut [u8],
     cells: &mut [u8],
@@ -175,20 +197,21 @@ fn settle(
     here: Here,
 ) -> Settled
     requires { ⌜ Stands here (mem (now rules) (now cells) (now words)) (graph (now buf) (now at) c) × (length (now work) ≡ 12291) ⌝ }
-    ensures { λ r. ⌜ SettlesOr here (mem (now (rules .entry)) (now (cells .entry)) (now (words .entry))) (graph (now (buf .entry)) (now (at .entry)) c) (mem (now (rules .exit)) (now (cells .exit)) (now (words .exit))) (now (buf .exit)) (now (at .exit)) r ⌝ }
+    ensures { λ r. ⌜ SettlesOr here (mem (now (rules .entry)) (now (cells .entry)) (now (words .entry))) (graph (now (buf .entry)) (now (at .entry)) c)
+        (mem (now (rules .exit)) (now (cells .exit)) (now (words .exit))) (now (buf .exit)) (now (at .exit)) r ⌝ }
 {
     let mut d = c;
     loop {
         d = saturation::saturate(buf, at, work, rules, cells, words, d, here);
         if d.over != 0 {
-            return Settled::NoLinks;
+            return Settled::Refused(Answer::NoLinks);
         }
         let f = saturation::first_waiting(buf, rules, cells, words, d, here);
         let Found::At(u) = f else {
             return Settled::Ready(d);
         };
         if !expansion::expand(rules, cells, words, u) {
-            return Settled::NoSets;
+            return Settled::Refused(Answer::NoSets);
         }
     }
 }

@@ -1,61 +1,45 @@
+-- `recogniser::parse` meets its contract. Assumes nothing.
 use Rattle.recogniser.proofs.Promise.{parses-refused, parses-read}
 use borrow.Author.Needs.{needs}
 use Rattle.recogniser.proofs.parse.Statement.{statement}
 use Rattle.recogniser.proofs.parse.Tie as tie
-use Rattle.recogniser.proofs.parse.Reads as reads
-use Rattle.recogniser.proofs.parse.Lts as lts
-use Rattle.recogniser.proofs.check.check.Reads as check-reads
-use Rattle.recogniser.proofs.run.Reads as run-reads
 
--- src/lib.rt:221:9
 check-requires : tie.Need-check-requires
 check-requires c κs = search needs
 
--- src/lib.rt:223:26
 enum-known-c : tie.Need-enum-known-c
 enum-known-c c = search needs
 
--- src/lib.rt:224:32
 enum-told : tie.Need-enum-told
 enum-told c = search needs
 
--- src/lib.rt:224:28
 run-requires : tie.Need-run-requires
 run-requires c κs = c .before .before .before .before .before .before .check .ensures .passed (c .before .before .before .before .enum-told .given .1)
 
--- src/lib.rt:218:1
 same-length : tie.Need-same-length
 same-length c = search needs
 
--- src/lib.rt:218:1
 same-length-2 : tie.Need-same-length-2
 same-length-2 c = search needs
 
--- src/lib.rt:218:1
 same-length-3 : tie.Need-same-length-3
 same-length-3 c = search needs
 
--- src/lib.rt:218:1
 returns : tie.Need-returns
 returns c = parses-refused _ _ _ _ (c .before .before .before .check .ensures .refused _ (c .before .c .given .1))
 
--- src/lib.rt:218:1
 same-length-4 : tie.Need-same-length-4
 same-length-4 c = search needs
 
--- src/lib.rt:218:1
 same-length-5 : tie.Need-same-length-5
 same-length-5 c = search needs
 
--- src/lib.rt:218:1
 same-length-6 : tie.Need-same-length-6
 same-length-6 c = search needs
 
--- src/lib.rt:218:1
 same-length-7 : tie.Need-same-length-7
 same-length-7 c = search needs
 
--- src/lib.rt:218:1
 returns-2 : tie.Need-returns-2
 returns-2 c = parses-read _ _ _ _ (c .before .before .before .before .before .before .before .before .before .before .before .before .before .before .before .check .ensures .passed (c .before .before .before .before .before .before .before .before .before .before .before .before .before .enum-told .given .1)) (c .before .before .before .before .before .before .before .before .run .ensures .0) (c .before .before .before .before .before .before .before .before .run .ensures .1)
 

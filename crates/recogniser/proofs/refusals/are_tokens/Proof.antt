@@ -1,3 +1,4 @@
+-- `recogniser::refusals::are_tokens` meets its contract. The invariant: the tokens so far are terminals. Assumes nothing.
 use mathlib.Core.Bool.{true}
 use mathlib.Core.Path.{_≡_}
 use Prim.Native.Nat.{_≤_, _-_}
@@ -8,11 +9,8 @@ use Rattle.laws.proofs.Loops.{all-none, all-end, all-fails, all-passes}
 use Rattle.symbols.specs.Symbol.{terminal}
 use Rattle.theory.specs.Calls.{allTokens}
 use borrow.Author.Needs.{needs}
-use Rattle.recogniser.proofs.check.are_tokens.Statement.{statement}
-use Rattle.recogniser.proofs.check.are_tokens.Tie as tie
-use Rattle.recogniser.proofs.check.are_tokens.Reads as reads
-use Rattle.recogniser.proofs.check.are_tokens.Lts as lts
-use Rattle.symbols.proofs.symbol.Symbol.is_terminal.Reads as is-terminal-reads
+use Rattle.recogniser.proofs.refusals.are_tokens.Statement.{statement}
+use Rattle.recogniser.proofs.refusals.are_tokens.Tie as tie
 
 abbrev Inv-loop : tie.InvT-loop
 Inv-loop line i₀ i = (i ≤ length line) × (allBelow i (λ k. terminal (getD line k 0)) ≡ true)
@@ -20,36 +18,28 @@ Inv-loop line i₀ i = (i ≤ length line) × (allBelow i (λ k. terminal (getD 
 abbrev μ-loop : tie.MeasureT-loop
 μ-loop line i₀ i = length line - i
 
--- src/lib.rt:173:5
 loop-holds : tie.Need-loop-holds Inv-loop μ-loop
 loop-holds c = (omega arith, all-none _)
 
--- src/lib.rt:174:20
 shared-slice-read-t6 : tie.Need-shared-slice-read-t6 Inv-loop μ-loop
 shared-slice-read-t6 c = search needs
 
--- src/lib.rt:174:13
 is-terminal-requires : tie.Need-is-terminal-requires Inv-loop μ-loop
 is-terminal-requires c κs = search needs
 
--- src/lib.rt:175:13
 returns : tie.Need-returns Inv-loop μ-loop
 unfolding allTokens
 returns c = all-fails _ (c .before .before .before .loop-test .taken) (c .before .is-terminal .ensures) (c .if1 .taken)
 
--- src/lib.rt:177:9
 add-i : tie.Need-add-i Inv-loop μ-loop
 add-i c = search needs
 
--- src/lib.rt:173:5
 loop-less : tie.Need-loop-less Inv-loop μ-loop
 loop-less c = search needs
 
--- src/lib.rt:173:5
 loop-again : tie.Need-loop-again Inv-loop μ-loop
 loop-again c = (omega arith, all-passes _ (c .before .before .before .before .loop .inv .1) (c .before .is-terminal .ensures) (c .if1 .left))
 
--- src/lib.rt:169:1
 returns-2 : tie.Need-returns-2 Inv-loop μ-loop
 unfolding allTokens
 returns-2 c = all-end _ (omega arith) (c .before .loop .inv .1)
