@@ -11,13 +11,15 @@ use lib.Dec.{leb}
 use lib.ListN.{length, getD, drop, length-append, length-drop, List·getD-eq-default, drop-of-length-le}
 use lib.Seq.{drop-cons, getD-drop}
 use borrow.Author.Tests.{le-leb, lt-leb, leb-true, leb-false}
-use Rattle.laws.specs.Choice.{_and_, when, Tells}
+use Rattle.laws.specs.Choice.{_and_, when}
 use Rattle.laws.proofs.Choice.{when-cases, and-left, and-right}
-use Rattle.script.specs.Text.{SPACE, digit, isDigit, decimal}
-use Rattle.script.specs.Reading.{LetterIs, LetterAt, NumberIs, NumberAt, digitAt, more, ended}
+use Rattle.script.specs.Text.{SPACE, NEWLINE, digit, isDigit, decimal, AtLineEnd}
+use Rattle.script.specs.Reading.{LetterIs, LetterAt, NumberIs, NumberAt, LineEndIs, LineEndAt, digitAt, more, ended}
 use Rattle.script.specs.declared.cursor.Cursor.{Cursor}
 use Rattle.script.specs.declared.cursor.Letter.{Letter}
 use Rattle.script.specs.declared.cursor.Letter.the-variants.{Is as is-letter, Nothing as no-letter}
+use Rattle.script.specs.declared.cursor.LineEnd.{LineEnd}
+use Rattle.script.specs.declared.cursor.LineEnd.the-variants.{Is as is-end, Nothing as no-end}
 use Rattle.script.specs.declared.cursor.Digits.{Digits}
 use Rattle.script.specs.declared.cursor.Number.{Number}
 use Rattle.script.specs.declared.cursor.Number.the-variants.{Is, Nothing}
@@ -39,12 +41,27 @@ text-first line at = let e : at + 0 ≡ at = omega arith in getD-drop at line 0 
 
 -- ---- the line's end, and a letter
 
-pub line-ended : (line : List ℕ) (at : ℕ) → Tells (leb (length line) at) (drop at line ≡ [])
-line-ended line at = go (leb (length line) at) refl
-  where
-    go : (b : Bool) → leb (length line) at ≡ b → Tells b (drop at line ≡ [])
-    go true e = drop-of-length-le line (leb-true (length line) at e)
-    go false e = λ h. let l = leb-false (length line) at e in omega (arith, length-drop at line, ap length h)
+pub end-over : (line : List ℕ) (at : ℕ) → length line ≤ at → LineEndAt line at (is-end (record { at = at }))
+unfolding LineEndAt
+end-over line at l =
+    let e : drop at line ≡ [] = drop-of-length-le line l in
+    record { ends = ap (λ t. getD t 0 NEWLINE) e; past = e ∙ ap (drop 1) (sym e) }
+
+pub end-newline : (line : List ℕ) (at : ℕ) → at < length line → getD line at 0 ≡ NEWLINE → LineEndAt line at (is-end (record { at = at + 1 }))
+unfolding LineEndAt
+end-newline line at l e = let t = text-cons line at l in record { ends = ap (λ t. getD t 0 NEWLINE) t ∙ e; past = ap (drop 1) (sym t) }
+
+pub end-not : (line : List ℕ) (at : ℕ) → at < length line → (getD line at 0 ≡ NEWLINE → ⊥) → LineEndAt line at no-end
+unfolding LineEndAt
+end-not line at l f e = f (ap (λ t. getD t 0 NEWLINE) (sym (text-cons line at l)) ∙ e)
+
+pub end-of : {line : List ℕ} {at : ℕ} {after : Cursor} {r : LineEnd} → r ≡ is-end after → LineEndAt line at r → LineEndIs line at after
+unfolding LineEndAt
+end-of {line} {at} e h = subst (λ r. LineEndAt line at r) e h
+
+pub goes-on : (line : List ℕ) (at : ℕ) {r : LineEnd} → r ≡ no-end → LineEndAt line at r → AtLineEnd (drop at line) → ⊥
+unfolding LineEndAt
+goes-on line at e h = subst (λ r. LineEndAt line at r) e h
 
 pub letter-past : (line : List ℕ) (at : ℕ) → length line ≤ at → LetterAt line at no-letter
 unfolding LetterAt

@@ -6,7 +6,7 @@ use Prim.Native.Nat.{ℕ, suc, _+_, _≤_, _<_}
 use native.Mathlib.Numerals.{add-one}
 use native.Mathlib.Omega.{arith}
 use lib.Dec.{eqb, leb}
-use lib.ListN.{length, getD, take, drop, set}
+use lib.ListN.{length, getD, take, drop, set, length-drop, drop-of-length-le}
 use lib.Seq.{take-length, length-take-le, take-suc, drop-cons, set-at, take-at, drop-at, take-take, getD-take}
 use borrow.Author.Tests.{ne-eqb, leb-true}
 use Rattle.laws.specs.Choice.{when}
@@ -24,6 +24,8 @@ use Rattle.script.specs.declared.numbers.Count.{Count}
 use Rattle.script.specs.declared.numbers.Count.the-variants.{Are, Malformed as no-numbers}
 use Rattle.script.specs.declared.command.Command.{Command}
 use Rattle.script.specs.declared.command.Command.the-variants.{New, Add, Delete, Parse, Collect, Restart, List as Listing, Malformed}
+use Rattle.script.proofs.Meaning.{newline-ends, ends-newline, written-numbers}
+use Rattle.script.proofs.Spaced.{numbered-one}
 
 -- a command without symbols
 plain : {c : ℕ} {ns : List ℕ} (r : Command) → symbolsOf r ≡ 0 → told ns r ≡ meaningOf c ns → Tells c ns r
@@ -167,9 +169,9 @@ unread f = record { means = not-written f; few = omega arith; beyond = refl }
 
 pub no-letter-read : {line symbols : List ℕ} {r : Letter} → r ≡ no-letter → LetterAt line 0 r → Reads line symbols symbols Malformed
 unfolding LetterAt
-no-letter-read {line} e h = let f : LetterAt line 0 no-letter = subst (λ r. LetterAt line 0 r) e h in unread (λ c ns w. f c (spaced ns) (w .capital) (w .is))
+no-letter-read {line} e h = let f : LetterAt line 0 no-letter = subst (λ r. LetterAt line 0 r) e h in unread (λ c ns w. f c (spaced ns ++ w .end) (w .capital) (w .is))
 
-pub numbers-of : {line : List ℕ} {at : ℕ} {out : List ℕ} {n : ℕ} {r : Count} → r ≡ Are n → NumbersAt line at out r → NumbersAre line at out n
+pub numbers-of : {line : List ℕ} {at : ℕ} {out : List ℕ} {n : ℕ} {end : Cursor} {r : Count} → r ≡ Are n end → NumbersAt line at out r → NumbersAre line at out n end
 unfolding NumbersAt
 numbers-of {line} {at} {out} e h = subst (λ r. NumbersAt line at out r) e h
 
@@ -178,18 +180,27 @@ module _ {line : List ℕ} {letter : ℕ} {after : Cursor} (l : LetterIs line 0 
   unfolding NumbersAt
   no-numbers-read e h =
       let f : NumbersAt line (after .at) out no-numbers = subst (λ r. NumbersAt line (after .at) out r) e h in
-      unread (λ c ns w. f ns (record { is = tail-eq-of-cons-eq (sym (l .is) ∙ w .is); small = w .small }) (omega (arith, w .few)))
+      unread (λ c ns w. f ns (w .end) (written-numbers w (tail-eq-of-cons-eq (sym (l .is) ∙ w .is))) (omega (arith, w .few)))
+
+  -- text follows the line's end: that is more than a line
+  pub more-than-a-line : {symbols : List ℕ} {n : ℕ} {end : Cursor} → NumbersAre line (after .at) out n end → end .at < length line
+      → Reads line symbols symbols Malformed
+  more-than-a-line {n = n} {end} numbers more =
+      unread (λ c ns w.
+      let e = numbered-one (take n out) ns (numbers .numbered) (written-numbers w (tail-eq-of-cons-eq (sym (l .is) ∙ w .is))) .1 in
+      let none : drop (end .at) line ≡ [] = numbers .past ∙ ap (drop 1) e ∙ newline-ends (w .newline) .1 in
+      omega (arith, length-drop (end .at) line, ap length none))
 
   -- n numbers are read, and the command has its symbols from them
-  module _ {n : ℕ} {r : Command} (numbers : NumbersAre line (after .at) out n) (t : Tells letter (take n out) r) where
+  module _ {n : ℕ} {end : Cursor} {r : Command} (numbers : NumbersAre line (after .at) out n end) (t : Tells letter (take n out) r) where
     pub symbols-few : (symbolsOf r ≤ n) × (symbolsOf r ≤ 256)
     symbols-few = let e = length-take-le n out (numbers .room) in (omega (arith, t .within), omega (arith, t .within, numbers .room))
 
     pub symbols-bytes : {k : ℕ} → k ≡ symbolsOf r → (j : ℕ) → j < k → getD out j 0 ≤ 255
     symbols-bytes e j m = subst (λ x. x ≤ 255) (getD-take n out j 0 (omega (arith, symbols-few .0))) (t .bytes j (omega arith))
 
-    pub line-read : {k : ℕ} {symbols buffer : List ℕ} → k ≡ symbolsOf r → buffer ≡ take k out ++ drop k symbols → Reads line symbols buffer r
-    line-read {k} {symbols} {buffer} e b =
+    pub line-read : {k : ℕ} {symbols buffer : List ℕ} → length line ≤ end .at → k ≡ symbolsOf r → buffer ≡ take k out ++ drop k symbols → Reads line symbols buffer r
+    line-read {k} {symbols} {buffer} over e b =
         let j = symbolsOf r in
         let f : length (take j out) ≡ j = length-take-le j out (omega (arith, symbols-few .1)) in
         let g : buffer ≡ take j out ++ drop j symbols = b ∙ ap (λ i. take i out ++ drop i symbols) e in
@@ -197,6 +208,8 @@ module _ {line : List ℕ} {letter : ℕ} {after : Cursor} (l : LetterIs line 0 
         ap (take j) g ∙ take-at (take j out) (drop j symbols) j f ∙ sym (take-take j n out (symbols-few .0)) in
         record {
           means = subst (λ m. Means line m) (sym (told-same r buffer (take n out) same ∙ t .means)) (written (record {
+            end = numbers .rest;
+            newline = ends-newline (numbers .rest) (numbers .numbered .ends) (sym (numbers .past) ∙ drop-of-length-le line over);
             capital = l .capital;
             is = l .is ∙ ap (λ x. letter ∷ x) (numbers .numbered .is);
             small = numbers .numbered .small;

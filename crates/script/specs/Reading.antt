@@ -5,12 +5,14 @@ use Prim.Native.Nat.{ℕ, _+_, _-_, _*_, _≤_}
 use lib.Dec.{leb}
 use lib.ListN.{length, getD, take, drop}
 use Rattle.laws.specs.Choice.{when}
-use Rattle.script.specs.Text.{isDigit, decimal, Numbered, Starts, Capital}
+use Rattle.script.specs.Text.{isDigit, decimal, AtLineEnd, Numbered, Starts, Capital}
 use Rattle.script.specs.declared.cursor.Cursor.{Cursor}
 use Rattle.script.specs.declared.cursor.Letter.{Letter}
 use Rattle.script.specs.declared.cursor.Letter.the-variants.{Is as is-letter, Nothing as no-letter}
 use Rattle.script.specs.declared.cursor.Number.{Number}
 use Rattle.script.specs.declared.cursor.Number.the-variants.{Is as is-number, Nothing as no-number}
+use Rattle.script.specs.declared.cursor.LineEnd.{LineEnd}
+use Rattle.script.specs.declared.cursor.LineEnd.the-variants.{Is as is-end, Nothing as no-end}
 use Rattle.script.specs.declared.cursor.Digits.{Digits}
 use Rattle.script.specs.declared.numbers.Count.{Count}
 use Rattle.script.specs.declared.numbers.Count.the-variants.{Are, Malformed}
@@ -54,13 +56,27 @@ more line d =
 unfoldable pub ended : List ℕ → Digits → Number
 ended line d = when (leb (digitAt line (d .at)) 9) no-number (is-number (d .value) (record { at = d .at }))
 
+-- ---- the line's end
+
+pub record LineEndIs (line : List ℕ) (at : ℕ) (after : Cursor) : Type 0 where
+  pub ends : AtLineEnd (drop at line)
+  pub past : drop (after .at) line ≡ drop 1 (drop at line)
+
+-- the place after the newline, or the same place where the text is over without one; or that the line goes on
+unfoldable pub LineEndAt : List ℕ → ℕ → LineEnd → Type 0
+LineEndAt line at (is-end after) = LineEndIs line at after
+LineEndAt line at no-end = AtLineEnd (drop at line) → ⊥
+
 -- ---- numbers up to the line's end
 
-pub record NumbersAre (line : List ℕ) (at : ℕ) (out : List ℕ) (n : ℕ) : Type 0 where
+pub record NumbersAre (line : List ℕ) (at : ℕ) (out : List ℕ) (n : ℕ) (after : Cursor) : Type 0 where
   pub room : n ≤ length out
-  pub numbered : Numbered (drop at line) (take n out)
+  pub rest : List ℕ
+  pub numbered : Numbered (drop at line) (take n out) rest
+  pub past : drop (after .at) line ≡ drop 1 rest
 
--- how many there are, and they are in the buffer; or the text is not that of numbers for which the buffer has room
+-- how many there are, and they are in the buffer, with the place after the line's end; or the text is not that of numbers for which
+-- the buffer has room
 unfoldable pub NumbersAt : List ℕ → ℕ → List ℕ → Count → Type 0
-NumbersAt line at out (Are n) = NumbersAre line at out n
-NumbersAt line at out Malformed = (ns : List ℕ) → Numbered (drop at line) ns → length ns ≤ length out → ⊥
+NumbersAt line at out (Are n after) = NumbersAre line at out n after
+NumbersAt line at out Malformed = (ns rest : List ℕ) → Numbered (drop at line) ns rest → length ns ≤ length out → ⊥

@@ -42,8 +42,8 @@ impl Command {
     }
 }
 
-// Reads a line without its newline: any bytes, and any number of them. The symbols go into the lent buffer, the left one
-// first.
+// Reads a line, with its newline if it has one: any bytes, and any number of them. The symbols go into the lent buffer, the
+// left one first.
 pub fn read(line: &[u8], symbols: &mut [u8]) -> Command
     requires { ⌜ 256 ≤ length (now symbols) ⌝ }
     ensures { λ r. ⌜ Reads (now (line .entry)) (now (symbols .entry)) (now (symbols .exit)) r ⌝ }
@@ -52,9 +52,12 @@ pub fn read(line: &[u8], symbols: &mut [u8]) -> Command
         return Command::Malformed;
     };
     let mut ns = [0u16; 256];
-    let Count::Are(n) = numbers(after, line, &mut ns) else {
+    let Count::Are(n, end) = numbers(after, line, &mut ns) else {
         return Command::Malformed;
     };
+    if end.at < line.len() {
+        return Command::Malformed; // more than a line
+    }
     let command = meaning(letter, &ns[..n]);
     copy(&ns, command.symbols(), symbols);
     command

@@ -1,9 +1,7 @@
 ghost use mathlib.Core.Path.{_≡_};
-ghost use mathlib.Core.List.{[]};
 ghost use Prim.Native.Nat.{_<_};
 ghost use lib.ListN.{drop};
-ghost use Rattle.laws.specs.Choice.{Tells};
-ghost use Rattle.script.specs.Reading.{LetterAt, NumberAt, digitAt, more, ended};
+ghost use Rattle.script.specs.Reading.{LetterAt, NumberAt, LineEndAt, digitAt, more, ended};
 
 // A place in a line.
 pub struct Cursor {
@@ -19,6 +17,12 @@ pub enum Letter {
 // The answer to `number`: the number and the place after it.
 pub enum Number {
     Is(usize, Cursor),
+    Nothing,
+}
+
+// The answer to `line_end`: the place after it.
+pub enum LineEnd {
+    Is(Cursor),
     Nothing,
 }
 
@@ -68,11 +72,18 @@ impl Cursor {
         one.more(line).more(line).more(line).ended(line)
     }
 
-    // Whether the line ends here.
-    pub fn line_end(self, line: &[u8]) -> bool
-        ensures { λ r. ⌜ Tells r (drop (self .at) (now (line .entry)) ≡ []) ⌝ }
+    // Reads the line's end: a newline, or nothing where the text is over. "The last may lack it."
+    pub fn line_end(self, line: &[u8]) -> LineEnd
+        ensures { λ r. ⌜ LineEndAt (now (line .entry)) (self .at) r ⌝ }
     {
-        line.len() <= self.at
+        let at = self.at;
+        if line.len() <= at {
+            return LineEnd::Is(Cursor { at });
+        }
+        if line[at] != b'\n' {
+            return LineEnd::Nothing;
+        }
+        LineEnd::Is(Cursor { at: at + 1 })
     }
 }
 

@@ -1,10 +1,11 @@
 use super::cursor::Cursor;
+use super::cursor::LineEnd;
 use super::cursor::Number;
 ghost use Rattle.script.specs.Reading.{NumbersAt};
 
-// The answer to `numbers`.
+// The answer to `numbers`: how many there are, and the place after the line's end.
 pub enum Count {
-    Are(usize),
+    Are(usize, Cursor),
     Malformed,
 }
 
@@ -14,7 +15,10 @@ pub fn numbers(start: Cursor, line: &[u8], out: &mut [u16]) -> Count
 {
     let mut c = start;
     let mut n: usize = 0;
-    while !c.line_end(line) {
+    loop {
+        if let LineEnd::Is(after) = c.line_end(line) {
+            return Count::Are(n, after);
+        }
         if out.len() <= n {
             return Count::Malformed;
         }
@@ -25,5 +29,4 @@ pub fn numbers(start: Cursor, line: &[u8], out: &mut [u16]) -> Count
         n += 1;
         c = after;
     }
-    Count::Are(n)
 }
