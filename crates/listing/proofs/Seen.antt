@@ -17,7 +17,7 @@ use Rattle.table.specs.Layout.{Sets, Mem, sets, setsIn, rulesIn, stateOf, trans
 use Rattle.table.specs.Laid.{LaidSet, Laid}
 use Rattle.table.proofs.Read.{set-read}
 use Rattle.script.specs.Text.{SPACE, NEWLINE, decimal, spaced}
-use Rattle.listing.specs.Printed.{setText, isExpanded, itemText, transitionText, contents, kernelText, transitionsText, reductionsText, acceptText, body}
+use Rattle.listing.specs.Printed.{setText, isExpanded, itemText, transitionText, contents, kernelText, transitionsText, reductionsText, acceptText, body, listing}
 use Rattle.listing.specs.Walk.{listed, used, entryOf, itemOf, leads, transitionOf, reductionOf, contentsOf, expandedOf, bodyOf}
 use Rattle.listing.proofs.Listed.{listed-skip, listed-below, listed-cong, keep-map, join-map}
 
@@ -149,3 +149,18 @@ contents-seen m =
     (λ s g h. ap (setText s) (expanded-state (getD (x .cells) (s * 128 + 0) 0) ∙ ap isExpanded (sym (place s h))))
     ∙ listed-below (λ s. ltb 0 (setAt ss s .state)) (λ s. setText s (isExpanded (setAt ss s))) S
     ∙ ap (λ k. joinMap (λ s. setText s (isExpanded (setAt ss s))) (keep (λ s. ltb 0 (setAt ss s .state)) (upFrom 0 k))) (sym (length-tab S (setSeen (rulesIn (m .rules)) x))))
+
+-- ---- the whole
+
+pub listing-seen : (m : Mem) → contents (view m) ++ listed (used (m .sets .cells)) (body (view m)) 0 (setsIn (m .rules)) ≡ listing (view m)
+unfolding listing
+listing-seen m =
+    let S = setsIn (m .rules) in
+    let x = m .sets in
+    let ss = viewSets S (rulesIn (m .rules)) x in
+    ap (λ l. contents (view m) ++ l)
+    (listed-cong (used (x .cells)) (λ s. ltb 0 (setAt ss s .state)) (body (view m)) (body (view m)) 0 S
+    (λ s g h. used-state (getD (x .cells) (s * 128 + 0) 0) ∙ ap (λ p. ltb 0 (p .state)) (sym (set-read S (rulesIn (m .rules)) x s h)))
+    (λ s g h. refl)
+    ∙ listed-below (λ s. ltb 0 (setAt ss s .state)) (body (view m)) S
+    ∙ ap (λ k. joinMap (body (view m)) (keep (λ s. ltb 0 (setAt ss s .state)) (upFrom 0 k))) (sym (length-tab S (setSeen (rulesIn (m .rules)) x))))

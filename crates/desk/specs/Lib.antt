@@ -1,0 +1,4 @@
+-- What the desk does for a line, and what it prints.
+pub mod Use
+pub mod Reply
+pub mod Obeys
