@@ -2,9 +2,10 @@
 //! proved reader is compared with.
 //!
 //! `table` holds the rules and the item sets and changes them; `parse` reads a line over the table; `script` reads commands and
-//! prints answers.
+//! prints answers; `pools` does the calls on lent numbers.
 
 pub mod parse;
+pub mod pools;
 pub mod script;
 pub mod table;
 

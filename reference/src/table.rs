@@ -49,14 +49,14 @@ pub enum RulePlace {
 }
 
 impl RulePlace {
-    fn rule(&self) -> Option<&Rule> {
+    pub fn rule(&self) -> Option<&Rule> {
         match self {
             RulePlace::Free => None,
             RulePlace::Current(rule) | RulePlace::Withdrawn(rule) => Some(rule),
         }
     }
 
-    fn current(&self) -> Option<&Rule> {
+    pub fn current(&self) -> Option<&Rule> {
         match self {
             RulePlace::Current(rule) => Some(rule),
             _ => None,
@@ -109,6 +109,13 @@ impl Table {
         let mut places = vec![None; sets];
         places[0] = Some(Set::unexpanded(Kernel::new()));
         Ok(Table { rules: vec![RulePlace::Free; rules], sets: places, numbers: HashMap::new() })
+    }
+
+    /// The table with these places, which are in form.
+    pub fn of(rules: Vec<RulePlace>, sets: Vec<Option<Set>>) -> Table {
+        let others = sets.iter().enumerate().skip(1);
+        let numbers = others.filter_map(|(n, place)| place.as_ref().map(|set| (set.kernel.clone(), n))).collect();
+        Table { rules, sets, numbers }
     }
 
     pub fn sets(&self) -> &[Option<Set>] {
