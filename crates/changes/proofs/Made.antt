@@ -2,28 +2,22 @@
 use mathlib.Core.List.{List, [], _∷_}
 use mathlib.Core.Path.{_≡_, refl, sym, ap, ap₂, subst, _∙_}
 use mathlib.Core.Logic.{inr}
-use Prim.Native.Nat.{ℕ, zero, suc, pred, _+_, _*_, _/_, _%_, _^_, _≤_, _<_}
+use Prim.Native.Nat.{ℕ, zero, suc, pred, _+_, _*_, _≤_, _<_}
 use native.Mathlib.Nat.{le-refl}
 use native.Mathlib.Decide.{ℕ-discrete}
 use native.Mathlib.Omega.{arith}
-use lib.Dec.{eqb, lit<}
+use lib.Dec.{eqb}
 use lib.ListN.{length, getD, set, replicate, length-set}
 use lib.Seq.{getD-set-same, getD-set-other}
 use Rattle.laws.specs.Loops.{tabFrom, tab}
-use Rattle.laws.proofs.Chosen.{keep-none}
-use Rattle.kernels.specs.Bit.{bit}
-use Rattle.kernels.specs.Kernel.{has, holds}
 use Rattle.kernels.specs.Write.{writeWords}
-use Rattle.kernels.proofs.Bit.{bit-of-zero}
 use Rattle.kernels.proofs.Write.{length-write, write-in, write-out}
-use Rattle.theory.specs.Table.{SetPlace, freeRule, freeSet, unexpanded, allItems}
+use Rattle.theory.specs.Table.{SetPlace, freeRule, freeSet, unexpanded}
 use Rattle.theory.specs.Calls.{newTable}
-use Rattle.theory.proofs.Items.{in-all}
-use Rattle.table.specs.Layout.{Sets, sets, mem, setsIn, rulesIn, ruleNumber, cell, bitOf, stateOf, ruleSeen, kernelSeen, transitionsSeen, reductionsSeen, setSeen, viewRules, viewSets}
-use Rattle.table.specs.Laid.{LaidSet}
+use Rattle.table.specs.Layout.{sets, mem, setsIn, rulesIn, ruleNumber, cell, stateOf, ruleSeen, setSeen, viewRules, viewSets}
 use Rattle.table.specs.Becomes.{Becomes}
 use Rattle.table.proofs.RuleNumbers.{zeros-laid, zeros-seen}
-use Rattle.table.proofs.Rows.{transitions-none, reductions-none}
+use Rattle.table.proofs.Rows.{BareRow, bare-laid, bare-seen}
 use Rattle.changes.specs.Change.{Fits}
 
 -- ---- the same value all through a table
@@ -36,37 +30,6 @@ module _ {A : Type 0} where
 first-and-rest : (s : ℕ) (f : ℕ → SetPlace) (u v : SetPlace) → 1 ≤ s → f 0 ≡ u → ((k : ℕ) → 1 ≤ k → k < s → f k ≡ v) → tab s f ≡ u ∷ replicate (pred s) v
 first-and-rest zero f u v l e h = absurd (omega arith)
 first-and-rest (suc s) f u v l e h = ap₂ (λ x t. x ∷ t) e (from-one 1 s f v (λ k a b. h k a (omega arith)))
-
--- ---- a set of which only the mark, 0 or 1, is not zero
-
-module _ (x : Sets) (s : ℕ) (bare : (k : ℕ) → 1 ≤ k → k < 128 → cell x s k ≡ 0) (zeros : (k : ℕ) → k < 18 → getD (x .words) (s * 18 + k) 0 ≡ 0) where
-  no-bit : (i : ℕ) → i < 1152 → bitOf x s i ≡ 0
-  unfolding has
-  no-bit i l = ap (λ w. bit w (i % 64)) (zeros (i / 64) (omega arith)) ∙ bit-of-zero (i % 64)
-
-  marked-laid : (n : ℕ) → cell x s 0 < 2 → LaidSet n x s
-  marked-laid n l = record {
-    mark = omega arith;
-    words = λ k h. subst (λ v. v < 2 ^ 64) (sym (zeros k h)) (lit< tt);
-    items = λ i g h. no-bit i (omega arith);
-    reductions = λ r g h. no-bit (1024 + r) (omega arith);
-    bare = λ z k g h. bare k g h;
-    idle = λ z r h. no-bit (1024 + r) (omega arith);
-    unused = λ z i h. no-bit i (omega arith);
-  }
-
-  no-kernel : (n : ℕ) → n ≤ 128 → kernelSeen n (x .words) (s * 18) ≡ []
-  unfolding kernelSeen
-  no-kernel n few =
-      keep-none (λ i. holds (x .words) (s * 18) (i .rule * 8 + i .dot)) (allItems n)
-      (λ i m. let (p, q) = in-all n .0 m in ap (λ b. eqb b 1) (no-bit (i .rule * 8 + i .dot) (omega arith)))
-
-  marked-seen : (n mark : ℕ) → n ≤ 128 → cell x s 0 ≡ mark → setSeen n x s ≡ record { state = stateOf mark; kernel = []; transitions = []; reductions = []; accepts = eqb mark 3 }
-  marked-seen n mark few m =
-      let k = no-kernel n few in
-      let t : transitionsSeen x s ≡ [] = transitions-none x s bare in
-      let r : reductionsSeen n x s ≡ [] = reductions-none n x s (λ r l. no-bit (1024 + r) (omega arith)) in
-      λ z. record { state = stateOf (m z); kernel = k z; transitions = t z; reductions = r z; accepts = eqb (m z) 3 }
 
 -- ---- as the code writes them
 
@@ -117,8 +80,8 @@ module _ (rs c w : List ℕ) (s r : ℕ) (fits : Fits (mem rs c w) s r) where
   zero-word : (j k : ℕ) → j < s → k < 18 → getD newWords (j * 18 + k) 0 ≡ 0
   zero-word j k l h = zero-at w (s * 18) (j * 18 + k) (fits .words) (omega arith)
 
-  bare : (j k : ℕ) → j < s → 1 ≤ k → k < 128 → cell (sets newCells newWords) j k ≡ 0
-  bare j k l p q = zero-cell (j * 128 + k) (omega arith) (omega arith)
+  bare : (j : ℕ) → j < s → BareRow j (sets newCells newWords)
+  bare j l = record { cell = λ k p q. zero-cell (j * 128 + k) (omega arith) (omega arith); word = λ k h. zero-word j k l h }
 
   new-becomes : Becomes (mem rs c w) (mem newRules newCells newWords) (newTable s r)
   new-becomes =
@@ -141,7 +104,7 @@ module _ (rs c w : List ℕ) (s r : ℕ) (fits : Fits (mem rs c w) s r) where
             words = let h = fits .words in omega (arith, length-write w 0 (λ k. 0) (s * 18));
           };
           each-rule = λ j l. zeros-laid newRules j (λ k h. zero-rule j k (omega arith) h);
-          each-set = λ j l. marked-laid x j (λ k p q. bare j k (omega arith) p q) (λ k h. zero-word j k (omega arith) h) (rulesIn newRules) (small j (omega arith));
+          each-set = λ j l. bare-laid (bare j (omega arith)) (rulesIn newRules) (small j (omega arith));
         };
         seen = λ i. record { rules = rules-new i; sets = sets-new i };
         rules = λ k l. rest-rules k (omega arith) ∙ write-out rs 0 (λ k. 0) (2 + r * 10) k (inr (omega arith));
@@ -162,7 +125,7 @@ module _ (rs c w : List ℕ) (s r : ℕ) (fits : Fits (mem rs c w) s r) where
       sets-new =
           let x = sets newCells newWords in
           let seen : (j mark : ℕ) → j < s → cell x j 0 ≡ mark → setSeen r x j ≡ record { state = stateOf mark; kernel = []; transitions = []; reductions = []; accepts = eqb mark 3 } =
-          λ j mark l e. marked-seen x j (λ k p q. bare j k l p q) (λ k h. zero-word j k l h) r mark (fits .few-places) e in
+          λ j mark l e. bare-seen (bare j l) r mark (fits .few-places) e in
           ap₂ (λ (i n : ℕ). viewSets i n x) is-sets is-rules
           ∙ first-and-rest s (setSeen r x) (unexpanded []) freeSet (fits .some-sets) (seen 0 1 (fits .some-sets) mark₀)
           (λ j p l. seen j 0 l (zero-cell (j * 128 + 0) (omega arith) (omega arith)))

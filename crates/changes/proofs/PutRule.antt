@@ -13,9 +13,10 @@ use Rattle.table.specs.Becomes.{Becomes}
 use Rattle.table.specs.Write.{putRule as writeRule}
 use Rattle.table.proofs.Formed.{laid-rules}
 use Rattle.table.proofs.RuleNumbers.{Rewritten, put-rewrites, put-seen, put-laid, rewritten-laid, rewritten-sized, rewritten-view}
+use Rattle.table.proofs.Rows.{cells-beyond, words-beyond, sized-still}
 use Rattle.changes.specs.Touch.{touchedBy}
 use Rattle.changes.specs.Change.{placeOf, MayPut}
-use Rattle.changes.proofs.Touched.{cells-beyond, words-beyond, sized-still, touched-size, touched-beyond, touched-laid, touched-view}
+use Rattle.changes.proofs.Touched.{touched-size, touched-beyond, touched-laid, touched-view}
 
 module _ (m : Mem) (r state : ℕ) (x : Rule) (may : MayPut m r state x) where
   -- the rules after

@@ -9,16 +9,16 @@ use Rattle.laws.specs.Choice.{when}
 use Rattle.laws.specs.Loops.{upTo}
 use Rattle.laws.specs.Lists.{someIn}
 use Rattle.laws.proofs.Choice.{when-cases}
-use Rattle.laws.proofs.Chosen.{iff-same, not-iff}
+use Rattle.laws.proofs.Chosen.{iff-same}
 use Rattle.laws.proofs.Lists.{some-in}
-use Rattle.laws.proofs.Tests.{eqb-iff}
+use Rattle.laws.proofs.Tests.{eqb-iff, not-iff}
 use Rattle.theory.specs.Table.{SetPlace, unexpanded}
 use Rattle.table.specs.Layout.{Sets, cell, transition, kernelSeen, transitionsSeen, setSeen}
-use Rattle.table.specs.Laid.{LaidSet}
+use Rattle.table.specs.Laid.{LaidSet, HasRow}
 use Rattle.table.proofs.Once.{in-transitions}
-use Rattle.table.proofs.Rows.{SameRow, SameSize, row-refl, row-seen, row-laid, loop-size, loop-ahead, loop-row}
-use Rattle.changes.specs.Touch.{Room, unexpand, unexpandIf, unexpandAll}
-use Rattle.changes.proofs.Unexpanded.{room-same, unexpand-size, unexpand-other, unexpand-seen, unexpand-laid}
+use Rattle.table.proofs.Rows.{SameRow, SameSize, row-refl, row-seen, row-laid, loop-size, loop-ahead, loop-row, row-still}
+use Rattle.changes.specs.Touch.{unexpand, unexpandIf, unexpandAll}
+use Rattle.changes.proofs.Unexpanded.{unexpand-size, unexpand-other, unexpand-seen, unexpand-laid}
 
 -- what becomes of a set when a rule of `left` changes
 abbrev pub shut : ℕ → SetPlace → SetPlace
@@ -47,7 +47,7 @@ module _ (left : ℕ) where
   unfolding unexpandIf
   if-other s t x d = when-cases (λ y. SameRow t y x) (eqb (cell x s left) 0) (λ e. row-refl) (λ e. unexpand-other s t x d)
 
-  if-seen : (n s : ℕ) (x : Sets) → n ≤ 128 → 1 ≤ left → left < 128 → Room s x → setSeen n (unexpandIf left s x) s ≡ shut left (setSeen n x s)
+  if-seen : (n s : ℕ) (x : Sets) → n ≤ 128 → 1 ≤ left → left < 128 → HasRow s x → setSeen n (unexpandIf left s x) s ≡ shut left (setSeen n x s)
   unfolding unexpandIf
   if-seen n s x few p q h =
       go (eqb (cell x s left) 0) ∙ ap (λ b. when b (unexpanded (kernelSeen n (x .words) (s * 18))) (setSeen n x s)) (leads-some left s x p q)
@@ -56,7 +56,7 @@ module _ (left : ℕ) where
       go true = unfold when in refl
       go false = unfold when in unexpand-seen s x h n few
 
-  if-laid : (n s : ℕ) (x : Sets) → Room s x → LaidSet n x s → LaidSet n (unexpandIf left s x) s
+  if-laid : (n s : ℕ) (x : Sets) → HasRow s x → LaidSet n x s → LaidSet n (unexpandIf left s x) s
   unfolding unexpandIf
   if-laid n s x h l = when-cases (λ y. LaidSet n y s) (eqb (cell x s left) 0) (λ e. l) (λ e. unexpand-laid s x h n l)
 
@@ -66,8 +66,8 @@ module _ (left : ℕ) where
   found : (s : ℕ) (x : Sets) → SameRow s (upTo s (unexpandIf left) x) x
   found s x = loop-ahead (unexpandIf left) if-size if-other s s x (le-refl s)
 
-  roomy : (s : ℕ) (x : Sets) → Room s x → Room s (upTo s (unexpandIf left) x)
-  roomy s x h = room-same (loop-size (unexpandIf left) if-size if-other s x) h
+  roomy : (s : ℕ) (x : Sets) → HasRow s x → HasRow s (upTo s (unexpandIf left) x)
+  roomy s x h = row-still (loop-size (unexpandIf left) if-size if-other s x) h
 
   turned : (N s : ℕ) (x : Sets) → s < N → SameRow s (upTo N (unexpandIf left) x) (unexpandIf left s (upTo s (unexpandIf left) x))
   turned N s x h = loop-row (unexpandIf left) if-size if-other N s x h
@@ -76,13 +76,13 @@ module _ (left : ℕ) where
   unfolding unexpandAll
   all-size N x = loop-size (unexpandIf left) if-size if-other N x
 
-  pub all-seen : (n N s : ℕ) (x : Sets) → n ≤ 128 → 1 ≤ left → left < 128 → s < N → Room s x → setSeen n (unexpandAll N left x) s ≡ shut left (setSeen n x s)
+  pub all-seen : (n N s : ℕ) (x : Sets) → n ≤ 128 → 1 ≤ left → left < 128 → s < N → HasRow s x → setSeen n (unexpandAll N left x) s ≡ shut left (setSeen n x s)
   unfolding unexpandAll
   all-seen n N s x few p q h rm =
       let y = upTo s (unexpandIf left) x in
       row-seen n s _ _ few (turned N s x h) ∙ if-seen n s y few p q (roomy s x rm) ∙ ap (shut left) (row-seen n s y x few (found s x))
 
-  pub all-laid : (n N s : ℕ) (x : Sets) → s < N → Room s x → LaidSet n x s → LaidSet n (unexpandAll N left x) s
+  pub all-laid : (n N s : ℕ) (x : Sets) → s < N → HasRow s x → LaidSet n x s → LaidSet n (unexpandAll N left x) s
   unfolding unexpandAll
   all-laid n N s x h rm l =
       let y = upTo s (unexpandIf left) x in

@@ -2,87 +2,35 @@
 use mathlib.Core.Bool.{Bool, true, false}
 use mathlib.Core.List.{List, []}
 use mathlib.Core.Path.{_≡_, refl, sym, ap, subst, _∙_}
-use mathlib.Core.Logic.{_≢_, inr}
-use Prim.Native.Nat.{ℕ, zero, suc, _+_, _*_, _/_, _^_, _≤_, _<_}
-use native.Mathlib.Nat.{not-suc-le-zero}
+use mathlib.Core.Logic.{_↔_, _≢_, _⊎_, inr, ⊎-elim}
+use Prim.Native.Nat.{ℕ, _+_, _*_, _^_, _≤_, _<_}
 use native.Mathlib.Decide.{ℕ-discrete}
 use native.Mathlib.Omega.{arith}
 use lib.Dec.{T, eqb, lit<}
 use lib.ListN.{length, getD}
 use Rattle.laws.specs.Choice.{_and_}
-use Rattle.laws.specs.Loops.{upTo}
-use Rattle.laws.proofs.Choice.{when-cases}
 use Rattle.laws.proofs.Chosen.{iff-same, keep-cong}
 use Rattle.laws.proofs.Tables.{length-tab}
 use Rattle.laws.proofs.Tests.{and-both, eqb-iff}
 use Rattle.symbols.specs.Symbol.{START}
 use Rattle.kernels.specs.Kernel.{has, holds}
 use Rattle.kernels.specs.Write.{writeWords}
-use Rattle.kernels.proofs.Kernel.{length-put, put-out, has-put-same, has-put-other, word-put, has-clear}
+use Rattle.kernels.proofs.Kernel.{has-clear, has-cases}
 use Rattle.kernels.proofs.Write.{length-write, write-in, write-out}
 use Rattle.theory.specs.Table.{CURRENT, RulePlace, Item, unexpanded, ruleAt, allItems, startKernel}
 use Rattle.theory.proofs.Items.{in-all}
 use Rattle.table.specs.Layout.{Sets, rulesIn, cell, bitOf, stateOf, ruleSeen, kernelSeen, transitionsSeen, reductionsSeen, setSeen, viewRules}
-use Rattle.table.specs.Laid.{LaidSet}
+use Rattle.table.specs.Laid.{LaidSet, HasRow}
 use Rattle.table.proofs.Read.{rule-read}
 use Rattle.table.proofs.Rows.{SameRow, SameSize, transitions-none, reductions-none}
-use Rattle.changes.specs.Touch.{Room, bareRow, starts, putStart, startAgain}
+use Rattle.table.specs.Start.{isStart}
+use Rattle.table.proofs.Starts.{starts-length, starts-bits, starts-beyond, starts-fit}
+use Rattle.changes.specs.Touch.{bareRow, startAgain}
 use Rattle.changes.proofs.Unexpanded.{bare-row}
-
--- ---- the items put in for the rules below n
-
-module _ (rs : List ℕ) where
-  puts-length : (n : ℕ) (w : List ℕ) → length (upTo n (putStart rs) w) ≡ length w
-  unfolding upTo putStart
-  puts-length zero w = refl
-  puts-length (suc n) w =
-      when-cases (λ (y : List ℕ). length y ≡ length w) (starts rs n) (λ e. length-put (upTo n (putStart rs) w) 0 (n * 8) ∙ puts-length n w) (λ e. puts-length n w)
-
-  -- an item that is not START's is as it was
-  puts-other : (n : ℕ) (w : List ℕ) (i : ℕ) → n ≤ 128 → 18 ≤ length w → ((r : ℕ) → r < n → T (starts rs r) → i ≢ r * 8) → has (upTo n (putStart rs) w) 0 i ≡ has w 0 i
-  unfolding upTo putStart
-  puts-other zero w i few h d = refl
-  puts-other (suc n) w i few h d =
-      when-cases (λ (y : List ℕ). has y 0 i ≡ has w 0 i) (starts rs n)
-      (λ e. has-put-other (upTo n (putStart rs) w) 0 (n * 8) (omega (arith, puts-length n w)) i (d n (omega arith) (subst T (sym e) tt)) ∙ puts-other n w i (omega arith) h (λ r l. d r (omega arith)))
-      (λ e. puts-other n w i (omega arith) h (λ r l. d r (omega arith)))
-
-  -- START's items are there
-  puts-in : (n : ℕ) (w : List ℕ) (r : ℕ) → n ≤ 128 → 18 ≤ length w → r < n → T (starts rs r) → has (upTo n (putStart rs) w) 0 (r * 8) ≡ 1
-  unfolding upTo putStart
-  puts-in zero w r few h l t = absurd (not-suc-le-zero l)
-  puts-in (suc n) w r few h l t =
-      let u = upTo n (putStart rs) w in
-      let fits : 0 + n * 8 / 64 < length u = omega (arith, puts-length n w) in
-      elim (ℕ-discrete r n) [
-        | yes e ↦ when-cases (λ (y : List ℕ). has y 0 (r * 8) ≡ 1) (starts rs n)
-            (λ q. rw e (has-put-same u 0 (n * 8) fits))
-            (λ q. absurd (subst T (ap (starts rs) e ∙ q) t))
-        | no d ↦ when-cases (λ (y : List ℕ). has y 0 (r * 8) ≡ 1) (starts rs n)
-            (λ q. has-put-other u 0 (n * 8) fits (r * 8) (λ z. omega arith) ∙ puts-in n w r (omega arith) h (omega arith) t)
-            (λ q. puts-in n w r (omega arith) h (omega arith) t)
-      ]
-
-  -- the words beyond a kernel's 16
-  puts-beyond : (n : ℕ) (w : List ℕ) (p : ℕ) → n ≤ 128 → 16 ≤ p → getD (upTo n (putStart rs) w) p 0 ≡ getD w p 0
-  unfolding upTo putStart
-  puts-beyond zero w p few h = refl
-  puts-beyond (suc n) w p few h =
-      when-cases (λ (y : List ℕ). getD y p 0 ≡ getD w p 0) (starts rs n)
-      (λ e. put-out (upTo n (putStart rs) w) 0 (n * 8) p (λ z. omega arith) ∙ puts-beyond n w p (omega arith) h)
-      (λ e. puts-beyond n w p (omega arith) h)
-
-  puts-fit : (n : ℕ) (w : List ℕ) (p : ℕ) → getD w p 0 < 2 ^ 64 → n ≤ 128 → 18 ≤ length w → getD (upTo n (putStart rs) w) p 0 < 2 ^ 64
-  unfolding upTo putStart
-  puts-fit zero w p f few h = f
-  puts-fit (suc n) w p f few h =
-      when-cases (λ (y : List ℕ). getD y p 0 < 2 ^ 64) (starts rs n)
-      (λ e. word-put (upTo n (putStart rs) w) 0 (n * 8) (omega (arith, puts-length n w)) p (puts-fit n w p f (omega arith) h))
-      (λ e. puts-fit n w p f (omega arith) h)
 
 -- ---- set 0 made anew
 
-module _ (rs : List ℕ) (x : Sets) (few : rulesIn rs ≤ 128) (room : Room 0 x) where
+module _ (rs : List ℕ) (x : Sets) (few : rulesIn rs ≤ 128) (room : HasRow 0 x) where
   cleared : List ℕ
   cleared = writeWords (x .words) 0 (λ k. 0) 18
 
@@ -100,13 +48,13 @@ module _ (rs : List ℕ) (x : Sets) (few : rulesIn rs ≤ 128) (room : Room 0 x)
 
   pub start-size : SameSize (startAgain rs x) x
   unfolding startAgain
-  start-size = record { cells = length-write (x .cells) 0 bareRow 128; words = puts-length rs (rulesIn rs) (writeWords (x .words) 0 (λ k. 0) 18) ∙ length-write (x .words) 0 (λ k. 0) 18 }
+  start-size = record { cells = length-write (x .cells) 0 bareRow 128; words = starts-length rs (writeWords (x .words) 0 (λ k. 0) 18) ∙ length-write (x .words) 0 (λ k. 0) 18 }
 
   pub start-other : (t : ℕ) → t ≢ 0 → SameRow t (startAgain rs x) x
   unfolding startAgain
   start-other t d = record {
     cell = λ k l. write-out (x .cells) 0 bareRow 128 (t * 128 + k) (inr (omega arith));
-    word = λ k l. puts-beyond rs (rulesIn rs) (writeWords (x .words) 0 (λ k. 0) 18) (t * 18 + k) few (omega arith) ∙ write-out (x .words) 0 (λ k. 0) 18 (t * 18 + k) (inr (omega arith));
+    word = λ k l. starts-beyond rs few (writeWords (x .words) 0 (λ k. 0) 18) (t * 18 + k) (omega arith) ∙ write-out (x .words) 0 (λ k. 0) 18 (t * 18 + k) (inr (omega arith));
   }
 
   start-mark : cell (startAgain rs x) 0 0 ≡ 1
@@ -118,35 +66,39 @@ module _ (rs : List ℕ) (x : Sets) (few : rulesIn rs ≤ 128) (room : Room 0 x)
   start-cell k p q = write-in (x .cells) 0 bareRow 128 k q (let a = room .cells in omega arith) ∙ bare-row k p
 
   -- the bits of set 0: those of START's rules, and no other
-  start-in : (r : ℕ) → r < rulesIn rs → T (starts rs r) → bitOf (startAgain rs x) 0 (r * 8) ≡ 1
+  start-bits : (i : ℕ) → (bitOf (startAgain rs x) 0 i ≡ 1) ↔ ((has cleared 0 i ≡ 1) ⊎ ((r : ℕ) × (r < rulesIn rs) × (T (isStart rs r) × (i ≡ r * 8))))
   unfolding startAgain cleared
-  start-in r l t = puts-in rs (rulesIn rs) cleared r few long l t
+  start-bits i = starts-bits rs few cleared (let a = long in omega arith) i
 
-  start-out : (i : ℕ) → i < 1152 → ((r : ℕ) → r < rulesIn rs → T (starts rs r) → i ≢ r * 8) → bitOf (startAgain rs x) 0 i ≡ 0
-  unfolding startAgain cleared
-  start-out i l d = puts-other rs (rulesIn rs) cleared i few long d ∙ cleared-bit i l
+  start-in : (r : ℕ) → r < rulesIn rs → T (isStart rs r) → bitOf (startAgain rs x) 0 (r * 8) ≡ 1
+  start-in r l t = start-bits (r * 8) .1 (inr (r, l, (t, refl)))
+
+  start-out : (i : ℕ) → i < 1152 → ((r : ℕ) → r < rulesIn rs → T (isStart rs r) → i ≢ r * 8) → bitOf (startAgain rs x) 0 i ≡ 0
+  start-out i l d = ⊎-elim (λ z. z)
+      (λ o. absurd (⊎-elim (λ e. let z = cleared-bit i l in omega arith) (λ (r, h, (t, e)). d r h t e) (start-bits i .0 o)))
+      (has-cases (startAgain rs x .words) (0 * 18) i)
 
   start-high : (i : ℕ) → rulesIn rs * 8 ≤ i → i < 1152 → bitOf (startAgain rs x) 0 i ≡ 0
   start-high i h l = start-out i l (λ q m u z. omega arith)
 
-  start-item : (r d : ℕ) → r < rulesIn rs → d < 8 → holds (startAgain rs x .words) (0 * 18) (r * 8 + d) ≡ eqb d 0 and starts rs r
+  start-item : (r d : ℕ) → r < rulesIn rs → d < 8 → holds (startAgain rs x .words) (0 * 18) (r * 8 + d) ≡ eqb d 0 and isStart rs r
   start-item r d l h =
       iff-same _ _
       (λ t. elim (ℕ-discrete d 0) [
-        | yes e ↦ and-both (eqb d 0) (starts rs r) .1 (eqb-iff d 0 .1 e, is-start (starts rs r) refl e t)
+        | yes e ↦ and-both (eqb d 0) (isStart rs r) .1 (eqb-iff d 0 .1 e, is-start (isStart rs r) refl e t)
         | no e ↦ absurd (absent t (start-out (r * 8 + d) (omega arith) (λ q m u z. omega arith)))
       ])
       (λ t.
-      let (b, a) = and-both (eqb d 0) (starts rs r) .0 t in
+      let (b, a) = and-both (eqb d 0) (isStart rs r) .0 t in
       let e : r * 8 ≡ r * 8 + d = let z = eqb-iff d 0 .0 b in omega arith in
       eqb-iff _ 1 .1 (subst (λ j. bitOf (startAgain rs x) 0 j ≡ 1) e (start-in r l a)))
     where
       absent : T (holds (startAgain rs x .words) (0 * 18) (r * 8 + d)) → bitOf (startAgain rs x) 0 (r * 8 + d) ≡ 0 → ⊥
       absent t z = let a = eqb-iff (bitOf (startAgain rs x) 0 (r * 8 + d)) 1 .0 t in omega arith
 
-      is-start : (b : Bool) → starts rs r ≡ b → d ≡ 0 → T (holds (startAgain rs x .words) (0 * 18) (r * 8 + d)) → T b
+      is-start : (b : Bool) → isStart rs r ≡ b → d ≡ 0 → T (holds (startAgain rs x .words) (0 * 18) (r * 8 + d)) → T b
       is-start true q e t = tt
-      is-start false q e t = absent t (start-out (r * 8 + d) (omega arith) (λ k m u z. let y : k ≡ r = omega arith in subst T (ap (starts rs) y ∙ q) u))
+      is-start false q e t = absent t (start-out (r * 8 + d) (omega arith) (λ k m u z. let y : k ≡ r = omega arith in subst T (ap (isStart rs) y ∙ q) u))
 
   pub start-laid : LaidSet (rulesIn rs) (startAgain rs x) 0
   start-laid = record {
@@ -160,7 +112,7 @@ module _ (rs : List ℕ) (x : Sets) (few : rulesIn rs ≤ 128) (room : Room 0 x)
   }
     where
       words : (k : ℕ) → k < 18 → getD (startAgain rs x .words) (0 * 18 + k) 0 < 2 ^ 64
-      words k l = unfold startAgain cleared in puts-fit rs (rulesIn rs) cleared (0 + k) (subst (λ v. v < 2 ^ 64) (sym (cleared-word k l)) (lit< tt)) few long
+      words k l = unfold startAgain cleared in starts-fit rs few cleared (let a = long in omega arith) (0 + k) (subst (λ v. v < 2 ^ 64) (sym (cleared-word k l)) (lit< tt))
 
   -- the kernel that the model gives it
   start-kernel : kernelSeen (rulesIn rs) (startAgain rs x .words) (0 * 18) ≡ startKernel (viewRules rs)
@@ -173,8 +125,8 @@ module _ (rs : List ℕ) (x : Sets) (few : rulesIn rs ≤ 128) (room : Room 0 x)
       first : List RulePlace → Item → Bool
       first v i = eqb (i .dot) 0 and eqb (ruleAt v (i .rule) .state) CURRENT and eqb (ruleAt v (i .rule) .left) START
 
-      is-first : (r : ℕ) → r < rulesIn rs → starts rs r ≡ eqb (ruleAt (viewRules rs) r .state) CURRENT and eqb (ruleAt (viewRules rs) r .left) START
-      is-first r l = unfold starts ruleSeen in ap (λ (p : RulePlace). eqb (p .state) CURRENT and eqb (p .left) START) (sym (rule-read rs r l))
+      is-first : (r : ℕ) → r < rulesIn rs → isStart rs r ≡ eqb (ruleAt (viewRules rs) r .state) CURRENT and eqb (ruleAt (viewRules rs) r .left) START
+      is-first r l = unfold isStart ruleSeen in ap (λ (p : RulePlace). eqb (p .state) CURRENT and eqb (p .left) START) (sym (rule-read rs r l))
 
   pub start-seen : setSeen (rulesIn rs) (startAgain rs x) 0 ≡ unexpanded (startKernel (viewRules rs))
   start-seen =

@@ -2,11 +2,11 @@
 use mathlib.Core.Bool.{Bool, true, false}
 use mathlib.Core.List.{List, map}
 use mathlib.Core.Path.{_≡_, sym, subst, _∙_}
-use Prim.Native.Nat.{ℕ, _+_, _*_, _/_, _%_, _≤_, _<_}
+use Prim.Native.Nat.{ℕ, _≤_, _<_}
 use native.Mathlib.Decide.{ℕ-discrete}
 use native.Mathlib.Omega.{arith}
 use lib.Dec.{eqb}
-use lib.ListN.{getD, set}
+use lib.ListN.{set}
 use Rattle.laws.specs.Choice.{when}
 use Rattle.laws.proofs.Choice.{when-cases}
 use Rattle.laws.proofs.Chosen.{tab-cong, set-tab, map-tab}
@@ -14,42 +14,15 @@ use Rattle.symbols.specs.Symbol.{START}
 use Rattle.theory.specs.Table.{freeSet, unexpanded, startKernel}
 use Rattle.theory.specs.Calls.{touched}
 use Rattle.table.specs.Layout.{Sets, setsIn, rulesIn, setSeen, viewRules, viewSets}
-use Rattle.table.specs.Laid.{Sized, LaidSet}
-use Rattle.table.proofs.Rows.{SameRow, SameSize, row-seen, row-laid}
-use Rattle.changes.specs.Touch.{Room, unexpandAll, startAgain, touchedBy}
+use Rattle.table.specs.Laid.{Sized, LaidSet, HasRow}
+use Rattle.table.proofs.Rows.{SameRow, SameSize, row-seen, row-laid, row-in}
+use Rattle.changes.specs.Touch.{unexpandAll, startAgain, touchedBy}
 use Rattle.changes.proofs.Shut.{shut, all-size, all-seen, all-laid, all-beyond}
 use Rattle.changes.proofs.Start.{start-size, start-other, start-laid, start-seen}
 
--- rows that are the same from n on leave the numbers there alone
-module _ (n : ℕ) (a b : Sets) (h : (s : ℕ) → n ≤ s → SameRow s a b) where
-  pub cells-beyond : (k : ℕ) → n * 128 ≤ k → getD (a .cells) k 0 ≡ getD (b .cells) k 0
-  cells-beyond k l =
-      let e : k / 128 * 128 + k % 128 ≡ k = omega arith in
-      subst (λ j. getD (a .cells) j 0 ≡ getD (b .cells) j 0) e (h (k / 128) (omega arith) .cell (k % 128) (omega arith))
-
-  pub words-beyond : (k : ℕ) → n * 18 ≤ k → getD (a .words) k 0 ≡ getD (b .words) k 0
-  words-beyond k l =
-      let e : k / 18 * 18 + k % 18 ≡ k = omega arith in
-      subst (λ j. getD (a .words) j 0 ≡ getD (b .words) j 0) e (h (k / 18) (omega arith) .word (k % 18) (omega arith))
-
-pub room-in : {rs : List ℕ} {x : Sets} → Sized rs x → (s : ℕ) → s < setsIn rs → Room s x
-room-in z s l = let a = z .cells in let b = z .words in record { cells = omega arith; words = omega arith }
-
--- slices as long as before are long enough still
-pub sized-still : {rs : List ℕ} {x y : Sets} → SameSize y x → Sized rs x → Sized rs y
-sized-still {rs} e z = record {
-  some-sets = z .some-sets;
-  few-sets = z .few-sets;
-  some-rules = z .some-rules;
-  few-rules = z .few-rules;
-  rules = z .rules;
-  cells = subst (λ n. setsIn rs * 128 ≤ n) (sym (e .cells)) (z .cells);
-  words = subst (λ n. setsIn rs * 18 ≤ n) (sym (e .words)) (z .words);
-}
-
 module _ (rs : List ℕ) (x : Sets) (z : Sized rs x) (left : ℕ) where
-  room₀ : Room 0 x
-  room₀ = room-in z 0 (z .some-sets)
+  room₀ : HasRow 0 x
+  room₀ = row-in z 0 (z .some-sets)
 
   pub touched-size : SameSize (touchedBy rs left x) x
   unfolding touchedBy
@@ -71,7 +44,7 @@ module _ (rs : List ℕ) (x : Sets) (z : Sized rs x) (left : ℕ) where
         | yes d ↦ subst (λ k. LaidSet (rulesIn rs) (startAgain rs x) k) (sym d) (start-laid rs x (z .few-rules) room₀)
         | no d ↦ row-laid (rulesIn rs) s (startAgain rs x) x (start-other rs x (z .few-rules) room₀ s d) l
       ])
-      (λ e. all-laid left (rulesIn rs) (setsIn rs) s x h (room-in z s h) l)
+      (λ e. all-laid left (rulesIn rs) (setsIn rs) s x h (row-in z s h) l)
 
   pub touched-view : 1 ≤ left → left ≤ 127 → viewSets (setsIn rs) (rulesIn rs) (touchedBy rs left x) ≡ touched (viewRules rs) left (viewSets (setsIn rs) (rulesIn rs) x)
   unfolding touchedBy
@@ -85,5 +58,5 @@ module _ (rs : List ℕ) (x : Sets) (z : Sized rs x) (left : ℕ) where
           (λ j l d. row-seen (rulesIn rs) j (startAgain rs x) x (z .few-rules) (start-other rs x (z .few-rules) room₀ j d)))
       go false = unfold when in
           (tab-cong (setsIn rs) (setSeen (rulesIn rs) (unexpandAll (setsIn rs) left x)) (λ s. shut left (setSeen (rulesIn rs) x s))
-          (λ s l. all-seen left (rulesIn rs) (setsIn rs) s x (z .few-rules) p (omega arith) l (room-in z s l))
+          (λ s l. all-seen left (rulesIn rs) (setsIn rs) s x (z .few-rules) p (omega arith) l (row-in z s l))
           ∙ sym (map-tab (setsIn rs) (shut left) (setSeen (rulesIn rs) x)))

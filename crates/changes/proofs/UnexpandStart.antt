@@ -10,11 +10,10 @@ use Rattle.theory.specs.Table.{freeSet, unexpanded, setAt}
 use Rattle.table.specs.Layout.{Sets, setsIn, rulesIn, setSeen, viewSets}
 use Rattle.table.specs.Laid.{LaidSet, Laid}
 use Rattle.table.proofs.Read.{set-read}
-use Rattle.table.proofs.Rows.{SameRow, row-seen, row-laid}
+use Rattle.table.proofs.Rows.{SameRow, row-seen, row-laid, cells-beyond, words-beyond, row-in, sized-still}
 use Rattle.changes.specs.Touch.{unexpand}
 use Rattle.changes.specs.Change.{StartUnexpanded}
 use Rattle.changes.proofs.Unexpanded.{unexpand-size, unexpand-other, unexpand-seen, unexpand-laid}
-use Rattle.changes.proofs.Touched.{cells-beyond, words-beyond, room-in, sized-still}
 
 pub start-unexpanded : (x y : Sets) → y ≡ unexpand 0 x → StartUnexpanded x y
 start-unexpanded x y e = subst (λ y. StartUnexpanded x y) (sym e) after
@@ -22,7 +21,7 @@ start-unexpanded x y e = subst (λ y. StartUnexpanded x y) (sym e) after
     after : StartUnexpanded x (unexpand 0 x)
     after rs l =
         let z = l .sized in
-        let room = room-in z 0 (z .some-sets) in
+        let room = row-in z 0 (z .some-sets) in
         let other : (s : ℕ) → setsIn rs ≤ s → SameRow s (unexpand 0 x) x = λ s h. unexpand-other 0 s x (λ d. let a = z .some-sets in omega arith) in
         record {
           laid = record {
@@ -44,5 +43,5 @@ start-unexpanded x y e = subst (λ y. StartUnexpanded x y) (sym e) after
         seen rs l =
             let z = l .sized in
             sym (set-tab (setsIn rs) 0 (setSeen (rulesIn rs) x) (setSeen (rulesIn rs) (unexpand 0 x)) _ freeSet (z .some-sets)
-            (unexpand-seen 0 x (room-in z 0 (z .some-sets)) (rulesIn rs) (z .few-rules) ∙ ap (λ p. unexpanded (p .kernel)) (sym (set-read (setsIn rs) (rulesIn rs) x 0 (z .some-sets))))
+            (unexpand-seen 0 x (row-in z 0 (z .some-sets)) (rulesIn rs) (z .few-rules) ∙ ap (λ p. unexpanded (p .kernel)) (sym (set-read (setsIn rs) (rulesIn rs) x 0 (z .some-sets))))
             (λ j h d. row-seen (rulesIn rs) j (unexpand 0 x) x (z .few-rules) (unexpand-other 0 j x d)))

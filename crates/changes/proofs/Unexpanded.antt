@@ -16,16 +16,13 @@ use Rattle.kernels.proofs.Bit.{bit-of-zero}
 use Rattle.kernels.proofs.Write.{length-write, write-in, write-out}
 use Rattle.theory.specs.Table.{unexpanded}
 use Rattle.table.specs.Layout.{Sets, cell, bitOf, stateOf, kernelSeen, transitionsSeen, reductionsSeen, setSeen}
-use Rattle.table.specs.Laid.{LaidSet}
+use Rattle.table.specs.Laid.{LaidSet, HasRow}
 use Rattle.table.proofs.Rows.{SameRow, SameSize, kernel-cong, transitions-none, reductions-none}
-use Rattle.changes.specs.Touch.{Room, bareRow, unexpand}
+use Rattle.changes.specs.Touch.{bareRow, unexpand}
 
 pub bare-row : (k : ℕ) → 1 ≤ k → bareRow k ≡ 0
 bare-row zero h = absurd (omega arith)
 bare-row (suc k) h = refl
-
-pub room-same : {s : ℕ} {a b : Sets} → SameSize a b → Room s b → Room s a
-room-same {s} e h = record { cells = subst (λ k. s * 128 + 128 ≤ k) (sym (e .cells)) (h .cells); words = subst (λ k. s * 18 + 18 ≤ k) (sym (e .words)) (h .words) }
 
 -- zeros, then the mark: as the code does it
 pub bare-is : (c : List ℕ) (at : ℕ) → at + 128 ≤ length c → set (writeWords c at (λ k. 0) 128) at 1 ≡ writeWords c at bareRow 128
@@ -74,7 +71,7 @@ unexpand-item : (s : ℕ) (x : Sets) (i : ℕ) → i < 1024 → bitOf (unexpand 
 unfolding has
 unexpand-item s x i l = ap (λ w. bit w (i % 64)) (unexpand-word s x (i / 64) (omega arith))
 
-module _ (s : ℕ) (x : Sets) (room : Room s x) where
+module _ (s : ℕ) (x : Sets) (room : HasRow s x) where
   unexpand-mark : cell (unexpand s x) s 0 ≡ 1
   unfolding unexpand
   unexpand-mark = write-in (x .cells) (s * 128) bareRow 128 0 (omega arith) (room .cells)

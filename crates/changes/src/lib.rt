@@ -10,14 +10,10 @@
 //
 // A row is made bare by zeros and its mark: an unexpanded set has no target and no reduction. Its kernel's words are not touched.
 use symbols::Rule;
-ghost use mathlib.Core.Path.{_≡_};
-ghost use Prim.Native.Nat.{_+_, _≤_};
-ghost use lib.ListN.{length};
-ghost use Rattle.kernels.specs.Write.{writeWords};
 ghost use Rattle.theory.specs.Calls.{putRule, newTable};
 ghost use Rattle.table.specs.Layout.{mem, sets, view};
+ghost use Rattle.table.specs.Laid.{HasRow};
 ghost use Rattle.table.specs.Becomes.{Becomes};
-ghost use Rattle.changes.specs.Touch.{Room};
 ghost use Rattle.changes.specs.Change.{placeOf, MayPut, StartUnexpanded, Fits};
 
 mod touch; // touch.rt: the sets that a change of a rule touches
@@ -35,7 +31,7 @@ pub fn put_rule(rules: &mut [u8], cells: &mut [u8], words: &mut [u64], r: usize,
 
 // Makes set 0 unexpanded. Its kernel stays.
 pub fn unexpand_start(cells: &mut [u8], words: &mut [u64])
-    requires { ⌜ Room 0 (sets (now cells) (now words)) ⌝ }
+    requires { ⌜ HasRow 0 (sets (now cells) (now words)) ⌝ }
     ensures { λ _. ⌜ StartUnexpanded (sets (now (cells .entry)) (now (words .entry))) (sets (now (cells .exit)) (now (words .exit))) ⌝ }
 {
     touch::unexpand(cells, words, 0);
@@ -47,22 +43,10 @@ pub fn make(rules: &mut [u8], cells: &mut [u8], words: &mut [u64], sets: usize, 
     ensures { λ _. ⌜ Becomes (mem (now (rules .entry)) (now (cells .entry)) (now (words .entry))) (mem (now (rules .exit)) (now (cells .exit)) (now (words .exit)))
         (newTable sets places) ⌝ }
 {
-    clear(rules, 0, 2 + places * 10);
+    table::clear(rules, 0, 2 + places * 10);
     rules[0] = sets as u8;
     rules[1] = places as u8;
-    clear(cells, 0, sets * 128);
+    table::clear(cells, 0, sets * 128);
     cells[0] = table::UNEXPANDED;
     kernels::clear(words, 0, sets * 18);
-}
-
-// Makes the n numbers from `at` on zero.
-fn clear(bytes: &mut [u8], at: usize, n: usize)
-    requires { ⌜ at + n ≤ length (now bytes) ⌝ }
-    ensures { λ _. ⌜ now (bytes .exit) ≡ writeWords (now (bytes .entry)) at (λ k. 0) n ⌝ }
-{
-    let mut k: usize = 0;
-    while k < n {
-        bytes[at + k] = 0;
-        k += 1;
-    }
 }

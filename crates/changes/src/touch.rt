@@ -5,8 +5,8 @@ ghost use mathlib.Core.Path.{_≡_};
 ghost use Prim.Native.Nat.{_+_, _*_, _<_, _≤_};
 ghost use lib.ListN.{length};
 ghost use Rattle.table.specs.Layout.{sets};
-ghost use Rattle.table.specs.Laid.{Sized};
-ghost use Rattle.changes.specs.Touch.{Room, unexpand, unexpandIf, unexpandAll, starts, putStart, startAgain, touchedBy};
+ghost use Rattle.table.specs.Laid.{Sized, HasRow};
+ghost use Rattle.changes.specs.Touch.{unexpand, unexpandIf, unexpandAll, startAgain, touchedBy};
 
 // What a change of a rule of `left` touches becomes unexpanded.
 pub fn touch(rules: &[u8], cells: &mut [u8], words: &mut [u64], left: usize)
@@ -38,7 +38,7 @@ fn unexpand_all(cells: &mut [u8], words: &mut [u64], n: usize, left: usize)
 // is zero.
 fn unexpand_if(cells: &mut [u8], words: &mut [u64], left: usize, s: usize)
     requires { ⌜ (s < 256) × (left < 128) ⌝ }
-    requires { ⌜ Room s (sets (now cells) (now words)) ⌝ }
+    requires { ⌜ HasRow s (sets (now cells) (now words)) ⌝ }
     ensures { λ _. ⌜ sets (now (cells .exit)) (now (words .exit)) ≡ unexpandIf left s (sets (now (cells .entry)) (now (words .entry))) ⌝ }
 {
     if table::target(cells, s, left) != 0 {
@@ -49,10 +49,10 @@ fn unexpand_if(cells: &mut [u8], words: &mut [u64], left: usize, s: usize)
 // Set s becomes unexpanded: mark 1, no target, no reduction.
 pub fn unexpand(cells: &mut [u8], words: &mut [u64], s: usize)
     requires { ⌜ s < 256 ⌝ }
-    requires { ⌜ Room s (sets (now cells) (now words)) ⌝ }
+    requires { ⌜ HasRow s (sets (now cells) (now words)) ⌝ }
     ensures { λ _. ⌜ sets (now (cells .exit)) (now (words .exit)) ≡ unexpand s (sets (now (cells .entry)) (now (words .entry))) ⌝ }
 {
-    super::clear(cells, s * 128, 128);
+    table::clear(cells, s * 128, 128);
     cells[s * 128] = table::UNEXPANDED;
     kernels::clear(words, s * 18 + 16, 2);
 }
@@ -62,32 +62,8 @@ fn start_again(rules: &[u8], cells: &mut [u8], words: &mut [u64])
     requires { ⌜ Sized (now rules) (sets (now cells) (now words)) ⌝ }
     ensures { λ _. ⌜ sets (now (cells .exit)) (now (words .exit)) ≡ startAgain (now (rules .entry)) (sets (now (cells .entry)) (now (words .entry))) ⌝ }
 {
-    super::clear(cells, 0, 128);
+    table::clear(cells, 0, 128);
     cells[0] = table::UNEXPANDED;
     kernels::clear(words, 0, 18);
-    let n = table::rules_in(rules);
-    let mut r: usize = 0;
-    while r < n {
-        put_start(rules, words, r);
-        r += 1;
-    }
-}
-
-// Puts rule r with dot 0 into set 0's kernel, if it is a current rule of START.
-fn put_start(rules: &[u8], words: &mut [u64], r: usize)
-    requires { ⌜ (r < 128) × (16 ≤ length (now words)) ⌝ }
-    requires { ⌜ 2 + r * 10 + 10 ≤ length (now rules) ⌝ }
-    ensures { λ _. ⌜ now (words .exit) ≡ putStart (now (rules .entry)) r (now (words .entry)) ⌝ }
-{
-    if starts(rules, r) {
-        kernels::put(words, 0, r * 8);
-    }
-}
-
-// Whether rule r is a current rule of START.
-fn starts(rules: &[u8], r: usize) -> bool
-    requires { ⌜ 2 + r * 10 + 10 ≤ length (now rules) ⌝ }
-    ensures { λ b. ⌜ b ≡ starts (now (rules .entry)) r ⌝ }
-{
-    table::state(rules, r) == table::CURRENT && table::left(rules, r) == Symbol::START.0 as usize
+    table::put_starts(rules, words);
 }

@@ -19,8 +19,9 @@ use Rattle.table.specs.Layout.{rulesIn, kernelSeen, viewRules}
 use Rattle.table.specs.Laid.{FormedRules, HoldsKernel}
 use Rattle.closure.specs.Item.{afterAt, currentRuleOf}
 use Rattle.closure.specs.UnderWay.{Grew, MetBelow}
-use Rattle.closure.proofs.Rules.{view-length, formed-ruled, after-at}
-use Rattle.closure.proofs.Seen.{in-seen, seen-ascends}
+use Rattle.closure.proofs.Rules.{formed-ruled, after-at}
+use Rattle.closure.proofs.Seen.{seen-ascends}
+use Rattle.table.proofs.Read.{in-seen, view-length}
 
 rule-of : (rs : List ℕ) (r x : ℕ) → T (grammar (viewRules rs) .current r) → ruleAt (viewRules rs) r .left ≡ x → T (currentRuleOf (viewRules rs) x r)
 unfolding currentRuleOf

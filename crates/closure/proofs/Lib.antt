@@ -1,6 +1,5 @@
 -- How the walks over a closure's words come to what the model says.
 pub mod Rules
-pub mod Bits
 pub mod Seen
 pub mod Turn
 pub mod UnderWay

@@ -7,7 +7,6 @@ use native.Mathlib.Decide.{decLt}
 use native.Mathlib.Omega.{arith}
 use lib.Dec.{T}
 use lib.ListN.{length, getD, List·getD-eq-default}
-use Rattle.laws.proofs.Tables.{length-tab}
 use Rattle.symbols.specs.Symbol.{START, onRight}
 use Rattle.theory.specs.Items.{Next}
 use Rattle.theory.specs.Table.{FREE, RulePlace, freeRule, ruleAt, item, grammar}
@@ -17,11 +16,8 @@ use Rattle.theory.proofs.Symbols.{on-right, all-on-right}
 use Rattle.theory.proofs.Closure.{Ruled, after-next}
 use Rattle.table.specs.Layout.{rulesIn, ruleNumber, ruleSeen, viewRules}
 use Rattle.table.specs.Laid.{FormedRules}
-use Rattle.table.proofs.Read.{rule-read, right-read, right-length}
+use Rattle.table.proofs.Read.{rule-read, right-read, right-length, view-length}
 use Rattle.closure.specs.Item.{itemAt, afterAt}
-
-pub view-length : (rs : List ℕ) → length (viewRules rs) ≡ rulesIn rs
-view-length rs = length-tab (rulesIn rs) (ruleSeen rs)
 
 -- the item of a rule and a dot
 pub after-at : (rs : List RulePlace) (r d : ℕ) → d < 8 → afterAt rs (r * 8 + d) ≡ after rs (item r d)

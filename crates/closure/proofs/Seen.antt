@@ -1,27 +1,18 @@
--- The list of items that words hold: what is in it, and that it is ascending. Assumes nothing.
+-- The list of items that words hold: that it is ascending, and which bit is which item. Assumes nothing.
 use mathlib.Core.Path.{_≡_, sym, ap, _∙_}
 use mathlib.Core.Logic.{_↔_}
 use mathlib.Core.List.{List, List·Memᴰ as In}
 use Prim.Native.Nat.{ℕ, _+_, _*_, _/_, _%_, _<_}
 use native.Mathlib.Decide.{decLt}
 use native.Mathlib.Omega.{arith}
-use Rattle.laws.proofs.Tests.{eqb-iff}
-use Rattle.laws.proofs.Lists.{in-keep}
 use Rattle.kernels.specs.Kernel.{has, holds}
-use Rattle.theory.specs.Table.{item, allItems}
-use Rattle.theory.proofs.Items.{Ascends, in-all, kept-ascends}
+use Rattle.theory.proofs.Items.{Ascends, kept-ascends}
 use Rattle.table.specs.Layout.{kernelSeen}
 use Rattle.table.specs.Laid.{Within}
+use Rattle.table.proofs.Read.{in-seen}
 use Rattle.closure.specs.Item.{itemAt}
 
 module _ (n : ℕ) (ws : List ℕ) (at : ℕ) where
-  pub in-seen : (r d : ℕ) → In (item r d) (kernelSeen n ws at) ↔ (((r < n) × (d < 8)) × (has ws at (r * 8 + d) ≡ 1))
-  unfolding kernelSeen
-  in-seen r d = (
-    λ m. let (a, b) = in-keep (λ i. holds ws at (i .rule * 8 + i .dot)) (allItems n) .0 m in (in-all n .0 a, eqb-iff _ 1 .0 b),
-    λ (p, e). in-keep (λ i. holds ws at (i .rule * 8 + i .dot)) (allItems n) .1 (in-all n .1 p, eqb-iff _ 1 .1 e),
-  )
-
   pub seen-ascends : Ascends n (kernelSeen n ws at)
   unfolding kernelSeen
   seen-ascends = kept-ascends n (λ i. holds ws at (i .rule * 8 + i .dot))
@@ -33,6 +24,6 @@ module _ (n : ℕ) (ws : List ℕ) (at : ℕ) where
   pub bit-item : (i : ℕ) → i < n * 8 → (has ws at i ≡ 1) ↔ In (itemAt i) (kernelSeen n ws at)
   bit-item i l =
       let e : i / 8 * 8 + i % 8 ≡ i = omega arith in (
-        λ h. in-seen (i / 8) (i % 8) .1 ((omega arith, omega arith), ap (has ws at) e ∙ h),
-        λ m. ap (has ws at) (sym e) ∙ in-seen (i / 8) (i % 8) .0 m .1,
+        λ h. in-seen n ws at (i / 8) (i % 8) .1 ((omega arith, omega arith), ap (has ws at) e ∙ h),
+        λ m. ap (has ws at) (sym e) ∙ in-seen n ws at (i / 8) (i % 8) .0 m .1,
       )

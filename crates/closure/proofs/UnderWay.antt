@@ -24,8 +24,9 @@ use Rattle.table.specs.Layout.{rulesIn, kernelSeen, viewRules}
 use Rattle.table.specs.Laid.{FormedRules, Within}
 use Rattle.closure.specs.Item.{itemAt, afterAt, currentRuleOf}
 use Rattle.closure.specs.UnderWay.{putRule, UnderWay, Grew, MetAfter, MetBelow}
-use Rattle.closure.proofs.Bits.{length-put-if, has-put-if, fold-length, fold-bits, items-same}
-use Rattle.closure.proofs.Seen.{in-seen, bit-item}
+use Rattle.kernels.proofs.Puts.{length-put-if, has-put-if, fold-length, fold-bits, items-same}
+use Rattle.closure.proofs.Seen.{bit-item}
+use Rattle.table.proofs.Read.{in-seen}
 
 -- the closure of a part of a closure belongs to it
 closure-join : {G : Grammar} {K L : Items} → ((r d : ℕ) → K r d → Closure G L r d) → {r d : ℕ} → Closure G K r d → Closure G L r d

@@ -10,7 +10,7 @@ use lib.ListN.{length}
 use Rattle.laws.specs.Choice.{_and_}
 use Rattle.laws.specs.Lists.{someIn, keep, upFrom}
 use Rattle.laws.proofs.Chosen.{iff-same}
-use Rattle.laws.proofs.Tests.{and-both, eqb-iff, ltb-iff}
+use Rattle.laws.proofs.Tests.{and-both, eqb-iff, ltb-iff, not-eqb}
 use Rattle.laws.proofs.Lists.{some-in, in-keep, in-map, in-up}
 use Rattle.symbols.specs.Symbol.{START}
 use Rattle.kernels.specs.Walk.{visit}
@@ -18,7 +18,6 @@ use Rattle.kernels.specs.Kernel.{has}
 use Rattle.kernels.proofs.Kernel.{has-cases}
 use Rattle.theory.specs.Table.{RulePlace, Item, ruleAt, item, hasItem, allItems}
 use Rattle.theory.specs.Expansion.{after, moved, symbols, completed, filled}
-use Rattle.theory.proofs.Symbols.{not-eqb}
 use Rattle.theory.proofs.Items.{Ascends, has-item, in-all, same-kernel}
 use Rattle.theory.proofs.Kernels.{moved-ascends}
 use Rattle.table.specs.Layout.{rulesIn, kernelSeen, viewRules}
@@ -26,9 +25,10 @@ use Rattle.table.specs.Laid.{FormedRules, Within, HoldsKernel}
 use Rattle.closure.specs.Item.{itemAt, afterAt, endsAt}
 use Rattle.closure.specs.Walk.{putAfter, putMoved, ofStart, putReduction, acceptsToo, HoldsSymbols, HoldsCompleted}
 use Rattle.closure.specs.declared.walks.Completed.{Completed}
-use Rattle.closure.proofs.Rules.{view-length, after-at, after-inside}
-use Rattle.closure.proofs.Bits.{visit-bits, visit-mark}
-use Rattle.closure.proofs.Seen.{in-seen, seen-ascends, bit-inside, bit-item}
+use Rattle.closure.proofs.Rules.{after-at, after-inside}
+use Rattle.kernels.proofs.Puts.{visit-bits, visit-mark}
+use Rattle.closure.proofs.Seen.{seen-ascends, bit-inside, bit-item}
+use Rattle.table.proofs.Read.{in-seen, view-length}
 
 -- ---- what is in the model's lists
 

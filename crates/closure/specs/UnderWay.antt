@@ -5,13 +5,12 @@ use Prim.Native.Nat.{ℕ, _*_, _<_}
 use lib.Dec.{T}
 use lib.ListN.{length}
 use Rattle.symbols.specs.Symbol.{nonterminal}
-use Rattle.kernels.specs.Kernel.{has}
+use Rattle.kernels.specs.Kernel.{has, putIf}
 use Rattle.theory.specs.Items.{Closure}
 use Rattle.theory.specs.Table.{RulePlace, item, grammar}
 use Rattle.table.specs.Layout.{rulesIn, kernelSeen, viewRules}
 use Rattle.table.specs.Laid.{Within}
 use Rattle.closure.specs.Item.{afterAt, currentRuleOf}
-use Rattle.closure.specs.Walk.{putIf}
 
 -- rule r put in with dot 0, if it is a current rule of b
 abbrev pub putRule : List RulePlace → ℕ → ℕ → List ℕ → List ℕ

@@ -7,15 +7,11 @@ use Prim.Native.Nat.{ℕ, _+_, _/_}
 use lib.Dec.{eqb}
 use Rattle.laws.specs.Choice.{_and_, when}
 use Rattle.symbols.specs.Symbol.{START}
-use Rattle.kernels.specs.Kernel.{has, put}
+use Rattle.kernels.specs.Kernel.{has, putIf}
 use Rattle.theory.specs.Table.{RulePlace, Item, ruleAt}
 use Rattle.theory.specs.Expansion.{symbols, filled}
 use Rattle.closure.specs.Item.{afterAt, endsAt}
 use Rattle.closure.specs.declared.walks.Completed.{Completed}
-
--- bit i put in where the test passes
-unfoldable pub putIf : Bool → List ℕ → ℕ → List ℕ
-putIf b ws i = when b (put ws 0 i) ws
 
 -- ---- at item i
 

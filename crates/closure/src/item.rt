@@ -9,9 +9,6 @@ ghost use Rattle.table.specs.Layout.{rulesIn, viewRules};
 ghost use Rattle.table.specs.Laid.{FormedRules};
 ghost use Rattle.closure.specs.Item.{afterAt, endsAt, currentRuleOf};
 
-// The state of a rule that is current.
-const CURRENT: u8 = 1;
-
 // The symbol after the dot, the end mark where the dot is at the end.
 pub fn after(rules: &[u8], item: usize) -> Symbol
     requires { ⌜ FormedRules (now rules) × (item < rulesIn (now rules) * 8) ⌝ }
@@ -45,7 +42,7 @@ pub fn is_current_rule_of(rules: &[u8], b: Symbol, r: usize) -> bool
     requires { ⌜ FormedRules (now rules) × (r < rulesIn (now rules)) ⌝ }
     ensures { λ x. ⌜ x ≡ currentRuleOf (viewRules (now (rules .entry))) (b .0) r ⌝ }
 {
-    if rules[2 + r * 10] != CURRENT {
+    if rules[2 + r * 10] != table::CURRENT {
         return false;
     }
     left(rules, r).0 == b.0

@@ -3,30 +3,27 @@ use mathlib.Core.Bool.{false}
 use mathlib.Core.List.{List, map}
 use mathlib.Core.Path.{_≡_, refl, sym, ap₂, subst, _∙_}
 use mathlib.Core.Logic.{inl, inr}
-use Prim.Native.Nat.{ℕ, _+_, _*_, _/_, _%_, _<_}
-use native.Mathlib.Decide.{ℕ-discrete}
+use Prim.Native.Nat.{ℕ, _<_, _≤_}
 use native.Mathlib.Omega.{arith}
 use lib.ListN.{length, getD}
 use Rattle.laws.specs.Choice.{when}
 use Rattle.laws.specs.Loops.{upTo, tab}
 use Rattle.laws.proofs.Tests.{eqb-iff}
-use Rattle.laws.proofs.Tables.{length-tab}
 use Rattle.laws.proofs.Chosen.{iff-same}
 use Rattle.kernels.specs.Kernel.{has, holds}
 use Rattle.theory.specs.Table.{freeSet, setAt}
 use Rattle.theory.specs.Expansion.{reached, freed, collected}
-use Rattle.theory.specs.Form.{SetInForm, InForm}
-use Rattle.theory.proofs.Sets.{used-inside}
+use Rattle.theory.specs.Form.{InForm}
 use Rattle.theory.proofs.Reach.{marked-reach, reach-marked}
 use Rattle.theory.proofs.FormReach.{targets-used}
 use Rattle.theory.proofs.FormCollected.{collected-in-form}
-use Rattle.table.specs.Layout.{Mem, Sets, setsIn, rulesIn, cell, transition, setSeen, view, viewRules, viewSets}
-use Rattle.table.specs.Laid.{LaidSet, Laid, Formed}
+use Rattle.table.specs.Layout.{Mem, Sets, setsIn, rulesIn, view, viewRules, viewSets}
+use Rattle.table.specs.Laid.{LaidSet, Laid, Formed, HasRow}
 use Rattle.table.specs.Becomes.{Becomes}
-use Rattle.table.proofs.Once.{in-transitions}
-use Rattle.table.proofs.Read.{set-read}
+use Rattle.table.proofs.Rows.{SameRow, row-in, cells-beyond, words-beyond}
+use Rattle.table.proofs.Formed.{target-inside}
 use Rattle.collection.specs.Reach.{Rows, Marks}
-use Rattle.collection.specs.Sweep.{HasRow, freeUnmarked, freeWithdrawn}
+use Rattle.collection.specs.Sweep.{freeUnmarked, freeWithdrawn}
 use Rattle.collection.proofs.FreeSets as sets
 use Rattle.collection.proofs.FreeRules as rules
 
@@ -43,13 +40,7 @@ module _ (m : Mem) (f : Formed m) where
     some = f .laid .sized .some-sets;
     few = f .laid .sized .few-sets;
     row = λ s l. record { long = omega (arith, f .laid .sized .cells); bare = f .laid .each-set s l .bare };
-    targets = λ s x l p q. elim (ℕ-discrete (cell (m .sets) s x) 0) [
-      | yes z ↦ omega (arith, f .laid .sized .some-sets)
-      | no d ↦
-          let i : SetInForm (viewRules (m .rules)) (viewSets S n (m .sets)) (setSeen n (m .sets) s) = subst (SetInForm (viewRules (m .rules)) (viewSets S n (m .sets))) (set-read S n (m .sets) s l) (f .form .sets s (omega (arith, length-tab S (setSeen n (m .sets))))) in
-          let (u, z) = i .targets (transition x (cell (m .sets) s x)) (in-transitions (m .sets) s x (cell (m .sets) s x) .1 ((p, q), (refl, d))) in
-          omega (arith, used-inside (viewSets S n (m .sets)) (cell (m .sets) s x) u, length-tab S (setSeen n (m .sets)))
-    ];
+    targets = target-inside f;
   }
 
   -- the marks are the model's
@@ -61,7 +52,7 @@ module _ (m : Mem) (f : Formed m) where
       (λ t. eqb-iff (has marks 0 s) 1 .1 (e .1 (marked-reach (view m) (f .form .start-used) (targets-used (view m) (f .form)) s t)))
 
   room : (s : ℕ) → s < S → HasRow s (m .sets)
-  room s l = record { cells = omega (arith, f .laid .sized .cells); words = omega (arith, f .laid .sized .words) }
+  room s l = row-in (f .laid .sized) s l
 
   module _ (marks : List ℕ) (k : Marks S (m .sets .cells) marks) where
     rs : List ℕ
@@ -116,11 +107,12 @@ module _ (m : Mem) (f : Formed m) where
       laid = laid;
       seen = seen;
       rules = λ j h. rules.freed-other n j (m .rules) (inr (omega (arith, rules-same)));
-      cells = λ j h. let e : j / 128 * 128 + j % 128 ≡ j = omega arith in
-          subst (λ i. getD (x .cells) i 0 ≡ getD (m .sets .cells) i 0) e (sets.freed-beyond marks S (m .sets) (j / 128) (omega (arith, sets-same)) .cell (j % 128) (omega arith));
-      words = λ j h. let e : j / 18 * 18 + j % 18 ≡ j = omega arith in
-          subst (λ i. getD (x .words) i 0 ≡ getD (m .sets .words) i 0) e (sets.freed-beyond marks S (m .sets) (j / 18) (omega (arith, sets-same)) .word (j % 18) (omega arith));
+      cells = cells-beyond (setsIn rs) x (m .sets) beyond;
+      words = words-beyond (setsIn rs) x (m .sets) beyond;
     }
+      where
+        beyond : (s : ℕ) → setsIn rs ≤ s → SameRow s x (m .sets)
+        beyond s h = unfold x in sets.freed-beyond marks S (m .sets) s (omega (arith, sets-same))
 
     -- as the code comes to it
     pub collect-end : {rs′ : List ℕ} {x′ : Sets} → rs′ ≡ upTo n freeWithdrawn (m .rules) → x′ ≡ upTo S (freeUnmarked marks) (m .sets)

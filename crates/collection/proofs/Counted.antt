@@ -1,6 +1,6 @@
 -- How many sets are free, and which is the lowest, from the sets' marks. Assumes nothing.
 use mathlib.Core.Bool.{Bool, true, false}
-use mathlib.Core.List.{List, [], _∷_, List·Memᴰ as In, List·Memᴰ·head as here, List·Memᴰ·tail as there}
+use mathlib.Core.List.{List, [], _∷_}
 use mathlib.Core.Path.{_≡_, refl, sym, ap, ap₂, _∙_}
 use mathlib.Core.Logic.{_≢_}
 use Prim.Native.Nat.{ℕ, zero, suc, pred, _+_, _-_, _*_, _≤_, _<_}
@@ -13,13 +13,14 @@ use lib.ListN.{length, getD}
 use Rattle.laws.specs.Choice.{when}
 use Rattle.laws.specs.Loops.{tabFrom}
 use Rattle.laws.specs.Lists.{consIf, keep, firstIn, upFrom}
-use Rattle.laws.proofs.Choice.{when-yes, when-no}
 use Rattle.laws.proofs.Tables.{length-tab}
 use Rattle.laws.proofs.Lists.{in-up}
 use Rattle.theory.specs.Table.{FREE, SetPlace, setAt, inUse}
 use Rattle.theory.specs.Expansion.{freeSets, lowestFree}
 use Rattle.table.specs.Layout.{sets, mem, setsIn, rulesIn, stateOf, setSeen, view, viewSets}
 use Rattle.table.proofs.Read.{set-read}
+use Rattle.laws.proofs.Loops.{firstFrom}
+use Rattle.laws.proofs.Chosen.{first-cong}
 use Rattle.collection.specs.Reach.{cellOf}
 use Rattle.collection.specs.Room.{InTables}
 
@@ -95,50 +96,36 @@ rest-used {cells} {S} {r} h = record {
 
 -- ---- the lowest
 
-first-cong : (f g : ℕ → Bool) (l : List ℕ) → ((x : ℕ) → In x l → f x ≡ g x) → firstIn f 0 l ≡ firstIn g 0 l
-first-cong f g [] h = refl
-first-cong f g (x ∷ l) h = ap₂ (λ b r. when b x r) (h x (here refl)) (first-cong f g l (λ y m. h y (there m)))
+-- set t is free
+pub isFree : List ℕ → ℕ → Bool
+isFree cells t = eqb (cellOf cells t 0) 0
 
-module _ (cells : List ℕ) (S : ℕ) where
-  free : ℕ → Bool
-  free t = eqb (cellOf cells t 0) 0
+module _ (cells : List ℕ) where
+  first-cell : (t : ℕ) → getD cells (t * 128) 0 ≡ cellOf cells t 0
+  first-cell t = ap (λ p. getD cells p 0) (omega arith)
 
-  -- the lowest free set from s on, or 0
-  pub lowestFrom : ℕ → ℕ
-  lowestFrom s = firstIn free 0 (upFrom s (S - s))
+  pub is-free : (t : ℕ) → getD cells (t * 128) 0 ≡ 0 → isFree cells t ≡ true
+  unfolding isFree
+  is-free t h = eq-eqb _ 0 (sym (first-cell t) ∙ h)
 
-  module _ {s : ℕ} (so-far : lowestFrom 1 ≡ lowestFrom s) where
-    turn : s < S → lowestFrom 1 ≡ when (eqb (getD cells (s * 128) 0) 0) s (lowestFrom (s + 1))
-    unfolding lowestFrom free
-    turn l =
-        let e : S - s ≡ suc (S - (s + 1)) = omega arith in
-        let z : s * 128 + 0 ≡ s * 128 = omega arith in
-        so-far ∙ ap (λ m. firstIn free 0 (upFrom s m)) e ∙ ap₂ (λ p j. when (eqb (getD cells p 0) 0) s (firstIn free 0 (upFrom j (S - (s + 1))))) z (sym (add-one s))
-
-    pub lowest-here : s < S → getD cells (s * 128) 0 ≡ 0 → s ≡ lowestFrom 1
-    lowest-here l h = when-yes (lowestFrom (s + 1)) (eq-eqb _ 0 h) refl ∙ sym (turn l)
-
-    pub lowest-on : s < S → getD cells (s * 128) 0 ≢ 0 → lowestFrom 1 ≡ lowestFrom (s + 1)
-    lowest-on l h = turn l ∙ sym (when-no s (ne-eqb _ 0 h) refl)
-
-    pub lowest-none : S ≤ s → 0 ≡ lowestFrom 1
-    unfolding lowestFrom
-    lowest-none l = let e : S - s ≡ 0 = omega arith in sym (so-far ∙ ap (λ n. firstIn free 0 (upFrom s n)) e)
+  pub not-free : (t : ℕ) → getD cells (t * 128) 0 ≢ 0 → isFree cells t ≡ false
+  unfolding isFree
+  not-free t h = ne-eqb _ 0 (λ z. h (first-cell t ∙ z))
 
   -- a set of a table is free exactly if its mark is 0
-  free-seen : (rs ws : List ℕ) (t : ℕ) → t < setsIn rs → free t ≡ eqb (setAt (view (mem rs cells ws) .sets) t .state) FREE
-  unfolding free
+  free-seen : (rs ws : List ℕ) (t : ℕ) → t < setsIn rs → isFree cells t ≡ eqb (setAt (view (mem rs cells ws) .sets) t .state) FREE
+  unfolding isFree
   free-seen rs ws t l =
       sym (free-mark (cellOf cells t 0)) ∙ ap (λ p. eqb (p .state) FREE) (sym (set-read (setsIn rs) (rulesIn rs) (sets cells ws) t l))
 
-  pub lowest-end : {r : ℕ} → r ≡ lowestFrom 1 → InTables S cells (λ t. lowestFree (t .sets)) r
-  unfolding lowestFrom
-  lowest-end h = record {
+  pub lowest-end : {S r : ℕ} → r ≡ firstFrom (isFree cells) 0 S 1 → InTables S cells (λ t. lowestFree (t .sets)) r
+  unfolding firstFrom
+  lowest-end {S} h = record {
     exact = λ rs ws e.
         let v = view (mem rs cells ws) .sets in
         let k : length v ≡ setsIn rs = length-tab (setsIn rs) (setSeen (rulesIn rs) (sets cells ws)) in
         let n : S - 1 ≡ pred (length v) = omega arith in
-        h ∙ ap (λ n. firstIn free 0 (upFrom 1 n)) n
-        ∙ first-cong free (λ t. eqb (setAt v t .state) FREE) (upFrom 1 (pred (length v)))
+        h ∙ ap (λ n. firstIn (isFree cells) 0 (upFrom 1 n)) n
+        ∙ first-cong (isFree cells) (λ t. eqb (setAt v t .state) FREE) 0 (upFrom 1 (pred (length v)))
         (λ t m. let (p, q) = in-up 1 (pred (length v)) .0 m in free-seen rs ws t (omega arith));
   }

@@ -1,17 +1,11 @@
 -- Collection's second half on the numbers: what is freed becomes zero. Assumes nothing.
 use mathlib.Core.List.{List}
-use Prim.Native.Nat.{ℕ, _+_, _*_, _≤_}
+use Prim.Native.Nat.{ℕ, _+_, _*_}
 use lib.Dec.{eqb}
-use lib.ListN.{length}
 use Rattle.laws.specs.Choice.{when}
 use Rattle.kernels.specs.Kernel.{holds}
 use Rattle.kernels.specs.Write.{writeWords}
 use Rattle.table.specs.Layout.{Sets, ruleNumber}
-
--- the slices have row s
-pub record HasRow (s : ℕ) (x : Sets) : Type 0 where
-  pub cells : s * 128 + 128 ≤ length (x .cells)
-  pub words : s * 18 + 18 ≤ length (x .words)
 
 -- set s is free
 unfoldable pub freeRow : ℕ → Sets → Sets

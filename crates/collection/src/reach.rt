@@ -6,9 +6,6 @@
 ghost use Prim.Native.Nat.{_+_};
 ghost use Rattle.collection.specs.Reach.{cellOf, Row, Rows, Marks, Queued, Adds};
 
-// The lowest mark of an expanded set.
-const EXPANDED: u8 = 2;
-
 // A mark for each set that is reached; `sets` is the pool's size.
 pub fn reach(cells: &[u8], sets: usize) -> [u64; 4]
     requires { ⌜ Rows sets (now cells) ⌝ }
@@ -32,7 +29,7 @@ fn scan(cells: &[u8], s: usize, marks: &mut [u64; 4], queue: &mut [u8; 256], n: 
     ensures { λ r. ⌜ Adds 127 (λ k. cellOf (now (cells .entry)) s (k + 1))
         (now (marks .entry)) (now (queue .entry)) n (now (marks .exit)) (now (queue .exit)) r ⌝ }
 {
-    if cells[s * 128] < EXPANDED {
+    if cells[s * 128] < table::EXPANDED {
         return n; // not expanded: there are none
     }
     let mut n = n;

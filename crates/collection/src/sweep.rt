@@ -3,12 +3,9 @@ ghost use mathlib.Core.Path.{_≡_};
 ghost use Prim.Native.Nat.{_+_, _*_, _≤_, _<_};
 ghost use lib.ListN.{length};
 ghost use Rattle.laws.specs.Loops.{upTo};
-ghost use Rattle.kernels.specs.Write.{writeWords};
 ghost use Rattle.table.specs.Layout.{sets as setsOf};
-ghost use Rattle.collection.specs.Sweep.{HasRow, freeUnmarked, freeWithdrawn};
-
-// A rule number's state when it is withdrawn.
-const WITHDRAWN: u8 = 2;
+ghost use Rattle.table.specs.Laid.{HasRow};
+ghost use Rattle.collection.specs.Sweep.{freeUnmarked, freeWithdrawn};
 
 // Frees each of the sets that is not marked.
 pub fn free_unmarked(cells: &mut [u8], words: &mut [u64], marks: &[u64; 4], sets: usize)
@@ -33,7 +30,7 @@ fn free_unless_marked(cells: &mut [u8], words: &mut [u64], marks: &[u64; 4], s: 
     if kernels::has(marks, 0, s) {
         return;
     }
-    clear(cells, s * 128, 128);
+    table::clear(cells, s * 128, 128);
     kernels::clear(words, s * 18, 18);
 }
 
@@ -54,19 +51,7 @@ fn free_if_withdrawn(rules: &mut [u8], r: usize)
     requires { ⌜ 2 + r * 10 + 10 ≤ length (now rules) ⌝ }
     ensures { λ _. ⌜ now (rules .exit) ≡ freeWithdrawn r (now (rules .entry)) ⌝ }
 {
-    if rules[2 + r * 10] == WITHDRAWN {
-        clear(rules, 2 + r * 10, 10);
-    }
-}
-
-// Makes the n numbers from `at` on zero.
-fn clear(bytes: &mut [u8], at: usize, n: usize)
-    requires { ⌜ at + n ≤ length (now bytes) ⌝ }
-    ensures { λ _. ⌜ now (bytes .exit) ≡ writeWords (now (bytes .entry)) at (λ k. 0) n ⌝ }
-{
-    let mut k = 0;
-    while k < n {
-        bytes[at + k] = 0;
-        k += 1;
+    if rules[2 + r * 10] == table::WITHDRAWN {
+        table::clear(rules, 2 + r * 10, 10);
     }
 }

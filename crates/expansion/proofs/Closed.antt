@@ -7,23 +7,17 @@ use native.Mathlib.Omega.{arith}
 use lib.ListN.{length}
 use Rattle.laws.proofs.Tables.{length-tab}
 use Rattle.theory.specs.Table.{setAt}
-use Rattle.theory.specs.Form.{RuleInForm, InUse}
+use Rattle.theory.specs.Form.{InUse}
 use Rattle.theory.specs.Expansion.{closure, moved, symbols}
 use Rattle.theory.proofs.Sets.{used-inside}
 use Rattle.theory.proofs.Formed.{ruled, ranged}
 use Rattle.theory.proofs.Kernels.{moved-some}
-use Rattle.table.specs.Layout.{Mem, setsIn, rulesIn, ruleSeen, setSeen, viewRules, view}
-use Rattle.table.specs.Laid.{FormedRules, Formed, Within}
-use Rattle.table.proofs.Read.{rule-read, set-read}
+use Rattle.table.specs.Layout.{Mem, setsIn, rulesIn, setSeen, viewRules, view}
+use Rattle.table.specs.Laid.{Within}
+use Rattle.table.proofs.Read.{set-read}
+use Rattle.table.proofs.Formed.{formed-rules}
 use Rattle.expansion.specs.Expansion.{Unexpanded}
 use Rattle.expansion.specs.Inner.{itemsIn, Ready, Closed}
-
--- the rules of numbers in form
-pub formed-rules : (m : Mem) → Formed m → FormedRules (m .rules)
-formed-rules m f = record {
-  laid = record { some-rules = f .laid .sized .some-rules; few-rules = f .laid .sized .few-rules; long = f .laid .sized .rules; each-rule = f .laid .each-rule };
-  form = λ r l. subst RuleInForm (rule-read (m .rules) r l) (f .form .rules r (omega (arith, length-tab (rulesIn (m .rules)) (ruleSeen (m .rules)))));
-}
 
 module _ (m : Mem) (s : ℕ) (𝓤 : Unexpanded m s) where
   pub closed-used : InUse (view m .sets) s
@@ -48,7 +42,7 @@ module _ (m : Mem) (s : ℕ) (c : List ℕ) (𝓒 : Closed m s c) where
   closed-ready =
       let f = 𝓒 .is .formed in
       record {
-        rules = formed-rules m f;
+        rules = formed-rules f;
         some-sets = f .laid .sized .some-sets;
         few-sets = f .laid .sized .few-sets;
         sets = record { few-rules = f .laid .sized .few-rules; cells = f .laid .sized .cells; words = f .laid .sized .words; each = f .laid .each-set };

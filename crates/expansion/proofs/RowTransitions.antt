@@ -6,12 +6,11 @@ use Prim.Native.Nat.{ℕ, _≤_, _<_}
 use native.Mathlib.Omega.{arith}
 use lib.Dec.{eqb}
 use Rattle.laws.specs.Lists.{someIn, keep, upFrom}
-use Rattle.laws.proofs.Tests.{eqb-iff}
+use Rattle.laws.proofs.Tests.{eqb-iff, not-eqb}
 use Rattle.laws.proofs.Lists.{some-in, in-keep, in-map, in-up}
 use Rattle.laws.proofs.Chosen.{iff-same, keep-cong}
 use Rattle.theory.specs.Table.{Transition, Table, setAt, target}
 use Rattle.theory.specs.Form.{InForm, symbolsOf}
-use Rattle.theory.proofs.Symbols.{not-eqb}
 use Rattle.theory.proofs.Transitions.{goto-transition}
 use Rattle.theory.proofs.FormReach.{set-form, transition-goto}
 use Rattle.table.specs.Layout.{transition}

@@ -1,24 +1,16 @@
 -- What is seen of a set is ascending: its kernel, its reductions, and the symbols of its transitions. Assumes nothing.
 use mathlib.Core.Path.{_≡_, refl, sym, ap, subst}
-use mathlib.Core.Bool.{Bool, not}
+use mathlib.Core.Bool.{not}
 use mathlib.Core.List.{List, [], _∷_, map}
 use Prim.Native.Nat.{ℕ, _+_, _*_}
-use lib.Dec.{T, eqb}
+use lib.Dec.{eqb}
 use Rattle.laws.specs.Lists.{someIn, keep, upFrom}
-use Rattle.laws.proofs.Tests.{eqb-iff}
-use Rattle.laws.proofs.Lists.{some-in, in-keep}
+use Rattle.laws.proofs.Chosen.{kept-numbers}
 use Rattle.kernels.specs.Kernel.{holds}
 use Rattle.theory.specs.Table.{hasItem, allItems}
 use Rattle.theory.specs.Form.{symbolsOf}
-use Rattle.theory.proofs.Items.{keep-cong, kept-ascends}
+use Rattle.theory.proofs.Items.{kept-ascends}
 use Rattle.table.specs.Layout.{Sets, cell, transition, kernelSeen, transitionsSeen, reductionsSeen, setSeen}
-
--- what is kept of ascending numbers ascends
-kept-numbers : (f : ℕ → Bool) (i n : ℕ) → keep f (upFrom i n) ≡ keep (λ x. someIn (eqb x) (keep f (upFrom i n))) (upFrom i n)
-kept-numbers f i n = keep-cong f (λ x. someIn (eqb x) (keep f (upFrom i n))) (upFrom i n) (λ x m. (
-  λ t. some-in (eqb x) (keep f (upFrom i n)) .1 (x, in-keep f (upFrom i n) .1 (m, t), eqb-iff x x .1 refl),
-  λ t. let (y, a, e) = some-in (eqb x) (keep f (upFrom i n)) .0 t in subst (λ y. T (f y)) (sym (eqb-iff x y .0 e)) (in-keep f (upFrom i n) .0 a .1),
-))
 
 pub kernel-ascends : (n : ℕ) (ws : List ℕ) (at : ℕ) → kernelSeen n ws at ≡ keep (hasItem (kernelSeen n ws at)) (allItems n)
 unfolding kernelSeen

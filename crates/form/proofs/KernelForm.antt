@@ -2,30 +2,28 @@
 use mathlib.Core.Path.{_≡_, sym, ap, subst, _∙_}
 use mathlib.Core.Logic.{_↔_, _≢_, ⊎-elim}
 use mathlib.Core.Bool.{not}
-use mathlib.Core.List.{List, []}
+use mathlib.Core.List.{List}
 use Prim.Native.Nat.{ℕ, _+_, _*_, _/_, _%_, _^_, _≤_, _<_}
 use native.Mathlib.Decide.{ℕ-discrete, decLt}
 use native.Mathlib.Omega.{arith}
 use lib.Dec.{T, eqb}
 use lib.ListN.{getD}
 use Rattle.laws.specs.Choice.{_and_}
-use Rattle.laws.proofs.Tests.{and-both, eqb-iff, all-below}
+use Rattle.laws.proofs.Tests.{and-both, eqb-iff, all-below, not-iff, where-fails, not-eqb}
 use Rattle.laws.proofs.Tables.{length-tab}
-use Rattle.laws.proofs.Chosen.{not-iff}
 use Rattle.kernels.specs.Kernel.{item, has, same}
 use Rattle.kernels.proofs.Kernel.{Words, has-cases}
 use Rattle.theory.specs.Items.{StartItem}
 use Rattle.theory.specs.Table.{setAt, grammar, startKernel}
 use Rattle.theory.specs.Form.{InUse}
 use Rattle.theory.proofs.Items.{Ascends, same-kernel, in-start, start-ascends, current-inside}
-use Rattle.table.specs.Layout.{Sets, sets, setsIn, rulesIn, cell, bitOf, kernelSeen, ruleSeen, viewRules, viewSets}
+use Rattle.table.specs.Layout.{Sets, setsIn, rulesIn, cell, kernelSeen, ruleSeen, viewRules, viewSets}
 use Rattle.table.specs.Laid.{LaidSet, Within}
-use Rattle.table.proofs.Read.{set-read, kernel-read}
+use Rattle.table.proofs.Read.{set-read, in-seen}
 use Rattle.table.proofs.SameKernel.{same-seen}
 use Rattle.form.specs.Masks.{starts}
 use Rattle.form.specs.Sets.{kernelDiffers, kernelAlone, kernelsDiffer}
 use Rattle.form.specs.Formed.{startFits}
-use Rattle.form.proofs.Tests.{where-fails, not-zero}
 use Rattle.form.proofs.RuleForm.{at-state, at-left}
 use Rattle.form.proofs.MaskBits.{starts-mask, starts-item}
 use Rattle.form.proofs.Ascending.{kernel-ascends}
@@ -46,16 +44,16 @@ module _ (rs : List ℕ) (few : rulesIn rs ≤ 128) where
       same-kernel (rulesIn rs) (kernel-ascends (rulesIn rs) (starts rs) 0)
       (subst (λ n. Ascends n (startKernel (viewRules rs))) (length-tab (rulesIn rs) (ruleSeen rs)) (start-ascends (viewRules rs)))
       (λ r d. (
-        λ m. in-start (viewRules rs) r d .1 (to r d (kernel-read (rulesIn rs) (sets [] (starts rs)) 0 r d .0 m)),
-        λ m. kernel-read (rulesIn rs) (sets [] (starts rs)) 0 r d .1 (from r d (in-start (viewRules rs) r d .0 m)),
+        λ m. in-start (viewRules rs) r d .1 (to r d (in-seen (rulesIn rs) (starts rs) 0 r d .0 m)),
+        λ m. in-seen (rulesIn rs) (starts rs) 0 r d .1 (from r d (in-start (viewRules rs) r d .0 m)),
       ))
     where
-      to : (r d : ℕ) → ((r < rulesIn rs) × (d < 8)) × (bitOf (sets [] (starts rs)) 0 (r * 8 + d) ≡ 1) → StartItem (grammar (viewRules rs)) r d
+      to : (r d : ℕ) → ((r < rulesIn rs) × (d < 8)) × (has (starts rs) 0 (r * 8 + d) ≡ 1) → StartItem (grammar (viewRules rs)) r d
       to r d ((p, q), e) =
           let (l, z, c, x) = starts-item rs few r d q .0 e in
           record { at-first = z; current = eqb-iff _ _ .1 (at-state rs r p ∙ c); of-start = at-left rs r p ∙ x }
 
-      from : (r d : ℕ) → StartItem (grammar (viewRules rs)) r d → ((r < rulesIn rs) × (d < 8)) × (bitOf (sets [] (starts rs)) 0 (r * 8 + d) ≡ 1)
+      from : (r d : ℕ) → StartItem (grammar (viewRules rs)) r d → ((r < rulesIn rs) × (d < 8)) × (has (starts rs) 0 (r * 8 + d) ≡ 1)
       from r d s =
           let l : r < rulesIn rs = omega (arith, current-inside (viewRules rs) r (s .current), length-tab (rulesIn rs) (ruleSeen rs)) in
           let z = s .at-first in
@@ -68,8 +66,8 @@ unfolding kernelDiffers
 differs-says x s u =
     let a = same (x .words) (u * 18) (x .words) (s * 18) in
     let b = not (eqb (cell x u 0) 0) in (
-      λ t e d. not-iff (a and b) .0 t (and-both a b .1 (e, not-zero (cell x u 0) .1 d)),
-      λ h. not-iff (a and b) .1 (λ t. let (e, d) = and-both a b .0 t in h e (not-zero (cell x u 0) .0 d)),
+      λ t e d. not-iff (a and b) .0 t (and-both a b .1 (e, not-eqb (cell x u 0) 0 .1 d)),
+      λ h. not-iff (a and b) .1 (λ t. let (e, d) = and-both a b .0 t in h e (not-eqb (cell x u 0) 0 .0 d)),
     )
 
 module _ (rs : List ℕ) (x : Sets) (few : rulesIn rs ≤ 128) (fit : (k : ℕ) → k < setsIn rs * 18 → getD (x .words) k 0 < 2 ^ 64)
@@ -87,9 +85,9 @@ module _ (rs : List ℕ) (x : Sets) (few : rulesIn rs ≤ 128) (fit : (k : ℕ) 
       let l : 0 < setsIn rs = omega arith in
       let i = same-seen (rulesIn rs) (x .words) 0 (starts rs) 0 few (words 0 l) (λ k h. starts-mask rs few .fit (0 + k)) (each 0 l .items) (starts-within rs few) in (
         λ t. let (a, b) = and-both _ _ .0 t in
-            (used-is (setsIn rs) (rulesIn rs) x 0 .1 (l, not-zero (cell x 0 0) .0 a), kernel-at 0 l ∙ i .0 b ∙ starts-seen rs few),
+            (used-is (setsIn rs) (rulesIn rs) x 0 .1 (l, not-eqb (cell x 0 0) 0 .0 a), kernel-at 0 l ∙ i .0 b ∙ starts-seen rs few),
         λ (u, e). and-both _ _ .1 (
-          not-zero (cell x 0 0) .1 (used-is (setsIn rs) (rulesIn rs) x 0 .0 u .1),
+          not-eqb (cell x 0 0) 0 .1 (used-is (setsIn rs) (rulesIn rs) x 0 .0 u .1),
           i .1 (sym (kernel-at 0 l) ∙ e ∙ sym (starts-seen rs few)),
         ),
       )

@@ -1,5 +1,4 @@
 -- What the form test answers: its tests clause by clause, and the whole.
-pub mod Tests
 pub mod Turns
 pub mod RuleForm
 pub mod MaskBits

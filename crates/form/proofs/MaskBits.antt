@@ -3,11 +3,11 @@ use mathlib.Core.Path.{_≡_, refl, sym, ap, subst, _∙_}
 use mathlib.Core.Logic.{_↔_, _⊎_, inl, inr, ⊎-elim}
 use mathlib.Core.Bool.{Bool, true, false}
 use mathlib.Core.List.{List}
-use Prim.Native.Nat.{ℕ, zero, suc, _+_, _/_, _%_, _^_, _≤_, _<_}
+use Prim.Native.Nat.{ℕ, zero, suc, _+_, _*_, _/_, _%_, _^_, _≤_, _<_}
 use native.Mathlib.Nat.{le-refl, not-suc-le-zero}
 use native.Mathlib.Decide.{ℕ-discrete, decLt}
 use native.Mathlib.Omega.{arith}
-use lib.Dec.{T, eqb, leb}
+use lib.Dec.{T, leb}
 use lib.ListN.{length, getD, getD-replicate, length-replicate, List·getD-eq-default}
 use lib.Pow.{pow-pos}
 use Rattle.laws.specs.Choice.{_and_, when}
@@ -20,7 +20,9 @@ use Rattle.kernels.proofs.Bit.{bit-of-zero}
 use Rattle.kernels.proofs.Kernel.{length-put, has-put-same, has-put-other, word-put}
 use Rattle.theory.specs.Table.{CURRENT}
 use Rattle.table.specs.Layout.{rulesIn, ruleNumber}
-use Rattle.form.specs.Masks.{noBits, putItems, putNamed, named, putStart, starts, Short}
+use Rattle.table.specs.Start.{isStart}
+use Rattle.table.proofs.Starts.{starts-length, starts-bits, starts-fit}
+use Rattle.form.specs.Masks.{noBits, putItems, putNamed, named, starts, Short}
 
 -- 18 words with the bits of P
 pub record Mask (ws : List ℕ) (P : ℕ → Type 0) : Type 0 where
@@ -142,27 +144,28 @@ module _ (rs : List ℕ) (few : rulesIn rs ≤ 128) (short : Short rs) (last : �
 -- ---- the start kernel
 
 module _ (rs : List ℕ) (few : rulesIn rs ≤ 128) where
-  abbrev Starts : ℕ → Type 0
-  Starts r = T (eqb (ruleNumber rs r 0) CURRENT and eqb (ruleNumber rs r 1) START)
+  is-start : (r : ℕ) → T (isStart rs r) ↔ ((ruleNumber rs r 0 ≡ CURRENT) × (ruleNumber rs r 1 ≡ START))
+  unfolding isStart
+  is-start r = (λ t. simp tests at t, λ p. simp tests p)
 
-  start-turn : (r : ℕ) (l : List ℕ) (Q : ℕ → Type 0) → r < rulesIn rs → Mask l Q
-      → Mask (putStart rs r l) (λ j. Q j ⊎ (Starts r × (j ≡ item r 0)))
-  unfolding putStart
-  start-turn r l Q k m = mask-when (eqb (ruleNumber rs r 0) CURRENT and eqb (ruleNumber rs r 1) START) m (mask-put (item r 0) (omega arith) m)
-
-  pub starts-mask : Mask (starts rs) (λ j. ⊥ ⊎ ((r : ℕ) × (r < rulesIn rs) × (Starts r × (j ≡ item r 0))))
+  pub starts-mask : Mask (starts rs) (λ j. (has noBits 0 j ≡ 1) ⊎ ((r : ℕ) × (r < rulesIn rs) × (T (isStart rs r) × (j ≡ r * 8))))
   unfolding starts
-  starts-mask = mask-loop (putStart rs) (λ r j. Starts r × (j ≡ item r 0)) (rulesIn rs) start-turn mask-none
+  starts-mask =
+      let long : 16 ≤ length noBits = omega (arith, mask-none .long) in record {
+        long = starts-length rs noBits ∙ mask-none .long;
+        fit = λ k. starts-fit rs few noBits long k (mask-none .fit k);
+        bits = starts-bits rs few noBits long;
+      }
 
   pub starts-item : (r d : ℕ) → d < 8 → (has (starts rs) 0 (item r d) ≡ 1) ↔ ((r < rulesIn rs) × (d ≡ 0) × (ruleNumber rs r 0 ≡ CURRENT) × (ruleNumber rs r 1 ≡ START))
   starts-item r d q = (
-    λ e. ⊎-elim (λ f. absurd f) (λ (s, l, (t, b)). found s l t b) (starts-mask .bits (item r d) .0 e),
-    λ (l, z, c, x). starts-mask .bits (item r d) .1 (inr (r, l, (simp tests (c, x), ap (item r) z))),
+    λ e. ⊎-elim (λ f. absurd (mask-none .bits (item r d) .0 f)) (λ (s, l, (t, b)). found s l t b) (starts-mask .bits (item r d) .0 e),
+    λ (l, z, c, x). starts-mask .bits (item r d) .1 (inr (r, l, (is-start r .1 (c, x), omega arith))),
   )
     where
-      found : (s : ℕ) → s < rulesIn rs → Starts s → item r d ≡ item s 0
+      found : (s : ℕ) → s < rulesIn rs → T (isStart rs s) → item r d ≡ s * 8
           → (r < rulesIn rs) × (d ≡ 0) × (ruleNumber rs r 0 ≡ CURRENT) × (ruleNumber rs r 1 ≡ START)
       found s l t e =
           let z : s ≡ r = omega arith in
-          let (u, v) = simp tests at t in
+          let (u, v) = is-start s .0 t in
           (omega arith, omega arith, subst (λ k. ruleNumber rs k 0 ≡ CURRENT) z u, subst (λ k. ruleNumber rs k 1 ≡ START) z v)

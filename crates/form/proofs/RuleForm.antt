@@ -7,9 +7,9 @@ use native.Mathlib.Decide.{ℕ-discrete, decLt}
 use native.Mathlib.Omega.{arith}
 use lib.Dec.{T, eqb}
 use lib.ListN.{length, getD}
-use Rattle.laws.proofs.Tests.{tests, eqb-iff, all-below}
+use Rattle.laws.proofs.Tests.{tests, eqb-iff, all-below, not-iff, one-of, where-fails}
 use Rattle.laws.proofs.Tables.{length-tab}
-use Rattle.laws.proofs.Chosen.{not-iff, tab-cong}
+use Rattle.laws.proofs.Chosen.{tab-cong}
 use Rattle.symbols.specs.Symbol.{allOnRight}
 use Rattle.symbols.specs.Rule.{symbol, place, WellFormed, sameRule, rightSide, ruleOf}
 use Rattle.symbols.specs.Check.{noRule}
@@ -23,7 +23,6 @@ use Rattle.table.specs.Laid.{LaidRule}
 use Rattle.table.proofs.Read.{rule-read, right-length}
 use Rattle.table.proofs.Formed.{formed-well}
 use Rattle.table.proofs.RuleNumbers.{in-place, in-seven, in-left, in-right, zeros-laid, zeros-seen}
-use Rattle.form.proofs.Tests.{one-of, where-fails}
 use Rattle.form.specs.Rules.{ruleFits, differs, ruleAlone, rulesDiffer}
 
 -- ---- one rule

@@ -9,22 +9,21 @@ use native.Mathlib.Omega.{arith}
 use lib.Dec.{T, eqb, ltb}
 use lib.ListN.{getD, List·getD-eq-default}
 use Rattle.laws.specs.Lists.{someIn, keep, upFrom}
-use Rattle.laws.proofs.Tests.{and-both, ltb-iff, leb-iff, eqb-iff}
+use Rattle.laws.proofs.Tests.{and-both, ltb-iff, leb-iff, eqb-iff, one-of, where-passes}
 use Rattle.laws.proofs.Tables.{length-tab}
 use Rattle.laws.proofs.Chosen.{iff-same}
 use Rattle.kernels.specs.Kernel.{item, has, within}
 use Rattle.kernels.proofs.Kernel.{has-cases, has-on, empty-iff}
 use Rattle.kernels.proofs.Subset.{Subset, WordsFit, within-iff}
-use Rattle.theory.specs.Table.{FREE, UNEXPANDED, EXPANDED, freeSet, setAt, hasItem, allItems, item as itemOf}
+use Rattle.theory.specs.Table.{FREE, EXPANDED, freeSet, setAt, hasItem, allItems, item as itemOf}
 use Rattle.theory.specs.Form.{Named, InUse, Current, NamesCurrent, SetInForm}
 use Rattle.table.specs.Layout.{Sets, setsIn, rulesIn, ruleNumber, cell, bitOf, stateOf, kernelSeen, reductionsSeen, setSeen, ruleSeen, viewRules, viewSets}
 use Rattle.table.specs.Laid.{LaidRule, LaidSet}
 use Rattle.table.proofs.Once.{in-transitions}
-use Rattle.table.proofs.Read.{set-read, kernel-read, reductions-read}
+use Rattle.table.proofs.Read.{set-read, in-seen, state-unexpanded, reductions-read}
 use Rattle.table.proofs.Rows.{kernel-none, transitions-none, reductions-none}
 use Rattle.form.specs.Masks.{named, Short}
 use Rattle.form.specs.Sets.{bareFits, reductionsFit, targetsFit, expandedFits, setFits}
-use Rattle.form.proofs.Tests.{one-of, where-passes}
 use Rattle.form.proofs.RuleForm.{at-state, at-length, rule-inside}
 use Rattle.form.proofs.MaskBits.{Stated, named-mask, named-item, named-reduction}
 use Rattle.form.proofs.Ascending.{kernel-ascends, reductions-ascend, symbols-ascend}
@@ -36,11 +35,6 @@ state-free : (m : ℕ) → (stateOf m ≡ FREE) ↔ (m ≡ 0)
 state-free zero = (λ e. refl, λ e. refl)
 state-free (suc zero) = (λ e. absurd (omega arith), λ e. absurd (omega arith))
 state-free (suc (suc m)) = (λ e. absurd (omega arith), λ e. absurd (omega arith))
-
-state-bare : (m : ℕ) → stateOf m ≡ UNEXPANDED → m ≡ 1
-state-bare zero e = absurd (omega arith)
-state-bare (suc zero) e = refl
-state-bare (suc (suc m)) e = absurd (omega arith)
 
 state-le : (m : ℕ) → stateOf m ≤ EXPANDED
 state-le zero = omega arith
@@ -96,7 +90,7 @@ module _ (rs : List ℕ) (x : Sets) (few : rulesIn rs ≤ 128) (fit : (k : ℕ) 
   -- a kernel that stands in the mask of the current rules names them only
   kernel-current : (t : ℕ) → Subset (x .words) (t * 18) (named rs 1) 0 16 → NamesCurrent (viewRules rs) (kernelSeen (rulesIn rs) (x .words) (t * 18))
   kernel-current t sub i m =
-      let ((p, q), e) = kernel-read (rulesIn rs) x t (i .rule) (i .dot) .0 m in
+      let ((p, q), e) = in-seen (rulesIn rs) (x .words) (t * 18) (i .rule) (i .dot) .0 m in
       stated-current (item-stands t 1 sub (i .rule) (i .dot) (omega arith) q e .0)
 
   -- and one that names them only stands there, if its dots are within length
@@ -106,7 +100,7 @@ module _ (rs : List ℕ) (x : Sets) (few : rulesIn rs ≤ 128) (fit : (k : ℕ) 
       let z : item (k / 8) (k % 8) ≡ k = omega arith in
       let b : bitOf x t (item (k / 8) (k % 8)) ≡ 1 = ap (bitOf x t) z ∙ e in
       let (p, q) = within-length (k / 8) (k % 8) (omega arith) (omega arith) b in
-      let c = names (itemOf (k / 8) (k % 8)) (kernel-read (rulesIn rs) x t (k / 8) (k % 8) .1 ((p, omega arith), b)) in
+      let c = names (itemOf (k / 8) (k % 8)) (in-seen (rulesIn rs) (x .words) (t * 18) (k / 8) (k % 8) .1 ((p, omega arith), b)) in
       subst (λ j. has (named rs 1) 0 j ≡ 1) z (named-item rs few short 1 (k / 8) (k % 8) (omega arith) (omega arith) .1 (current-stated c, q))
 
   -- ---- the tests by words, bit by bit
@@ -235,7 +229,7 @@ module _ (rs : List ℕ) (x : Sets) (few : rulesIn rs ≤ 128) (fit : (k : ℕ) 
       passes-form = record {
         states = state-le (cell x s 0);
         items = λ i m.
-            let ((a, b), e) = kernel-read (rulesIn rs) x s (i .rule) (i .dot) .0 m in
+            let ((a, b), e) = in-seen (rulesIn rs) (x .words) (s * 18) (i .rule) (i .dot) .0 m in
             let (st, l) = item-named (i .rule) (i .dot) (omega arith) b e in
             (stated-named st, subst (λ n. i .dot ≤ n) (sym (at-length rs (i .rule) a)) l);
         reductions = λ r m. let (a, e) = reductions-read (rulesIn rs) x s r .0 m in stated-named (reduction-named r (omega arith) e);
@@ -259,7 +253,7 @@ module _ (rs : List ℕ) (x : Sets) (few : rulesIn rs ≤ 128) (fit : (k : ℕ) 
             let k = kernel-none (rulesIn rs) (x .words) (s * 18) (λ i l. free-empty z i (omega arith)) in
             bare-place (omega arith) ∙ (λ i. record { state = e i; kernel = k i; transitions = []; reductions = []; accepts = false });
         bare = λ e.
-            let z = state-bare (cell x s 0) e in
+            let z = state-unexpanded (cell x s 0) e in
             bare-place (omega arith) ∙ (λ i. record { state = e i; kernel = kernelSeen (rulesIn rs) (x .words) (s * 18); transitions = []; reductions = []; accepts = false });
         kernel-ascends = subst (λ n. kernelSeen (rulesIn rs) (x .words) (s * 18) ≡ keep (hasItem (kernelSeen (rulesIn rs) (x .words) (s * 18))) (allItems n))
             (sym (length-tab (rulesIn rs) (ruleSeen rs))) (kernel-ascends (rulesIn rs) (x .words) (s * 18));
@@ -275,7 +269,7 @@ module _ (rs : List ℕ) (x : Sets) (few : rulesIn rs ≤ 128) (fit : (k : ℕ) 
         → (r < rulesIn rs) × (Named (viewRules rs) r) × (d ≤ ruleNumber rs r 2)
     form-item t l r d p q e = elim (decLt r (rulesIn rs)) [
       | yes h ↦
-          let (a, b) = form t l .items (itemOf r d) (kernel-read (rulesIn rs) x t r d .1 ((h, q), e)) in
+          let (a, b) = form t l .items (itemOf r d) (in-seen (rulesIn rs) (x .words) (t * 18) r d .1 ((h, q), e)) in
           (h, a, subst (λ n. d ≤ n) (at-length rs r h) b)
       | no g ↦ absurd (omega (arith, each t l .items (item r d) (omega arith) (omega arith)))
     ]

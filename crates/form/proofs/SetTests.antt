@@ -9,14 +9,13 @@ use native.Mathlib.Omega.{arith}
 use lib.Dec.{T, eqb}
 use lib.ListN.{getD}
 use lib.Pow.{pow-pos}
-use Rattle.laws.proofs.Tests.{and-both, eqb-iff, ltb-iff, all-below}
+use Rattle.laws.proofs.Tests.{and-both, eqb-iff, ltb-iff, all-below, where-passes, where-fails, not-eqb}
 use Rattle.kernels.specs.Bit.{bit}
 use Rattle.kernels.specs.Kernel.{within, empty}
 use Rattle.kernels.proofs.Bit.{bit-of-zero, word-ext}
 use Rattle.kernels.proofs.Kernel.{has-at}
 use Rattle.table.specs.Layout.{Sets, cell, bitOf}
 use Rattle.form.specs.Sets.{zeros, bareFits, targetFits, targetsFit}
-use Rattle.form.proofs.Tests.{where-passes, where-fails, not-zero}
 
 -- ---- the 127 targets
 
@@ -41,9 +40,9 @@ module _ (S : ℕ) (x : Sets) (current : List ℕ) (only : Bool) where
         let q = where-fails (eqb t 0) _ .0 p (λ z. d (eqb-iff t 0 .0 z)) in
         let (a, r) = and-both _ _ .0 q in
         let (b, c) = and-both _ _ .0 r in
-        record { inside = ltb-iff t S .0 a; used = not-zero (cell x t 0) .0 b; names = where-passes only _ .0 c },
+        record { inside = ltb-iff t S .0 a; used = not-eqb (cell x t 0) 0 .0 b; names = where-passes only _ .0 c },
     λ h. where-fails (eqb t 0) _ .1 (λ n. let l = h (λ e. n (eqb-iff t 0 .1 e)) in
-        and-both _ _ .1 (ltb-iff t S .1 (l .inside), and-both _ _ .1 (not-zero (cell x t 0) .1 (l .used), where-passes only _ .1 (l .names)))),
+        and-both _ _ .1 (ltb-iff t S .1 (l .inside), and-both _ _ .1 (not-eqb (cell x t 0) 0 .1 (l .used), where-passes only _ .1 (l .names)))),
   )
 
   pub targets-say : (s : ℕ) → T (targetsFit S x current only s) ↔ ((k : ℕ) → 1 ≤ k → k < 128 → cell x s k ≢ 0 → Led (cell x s k))

@@ -1,12 +1,12 @@
 -- What the chains of tests in the code need besides the laws of `laws`. Assumes nothing.
-use mathlib.Core.Path.{_≡_, refl, sym, ap, ap₂, subst, _∙_}
+use mathlib.Core.Path.{_≡_, refl, sym, ap, ap₂, _∙_}
 use mathlib.Core.Bool.{Bool, true, false, not}
 use mathlib.Core.List.{List}
 use Prim.Native.Nat.{ℕ, _+_}
 use native.Mathlib.Numerals.{add-one}
 use native.Mathlib.Omega.{arith}
 use lib.Bits.{bitOr, or-add-and, and-le-l, and-le-r}
-use lib.Dec.{T, eqb}
+use lib.Dec.{eqb}
 use Rattle.laws.specs.Choice.{_and_}
 use Rattle.laws.specs.Loops.{allBelow}
 use Rattle.laws.proofs.Tests.{and-both, eqb-iff}
@@ -37,9 +37,6 @@ sets-whole rs x h e p q = h ∙ (λ i. allBelow (e i) (setFits (e i) x (p i) (q 
 
 pub kernels-whole : {r : Bool} {n m : ℕ} (x : Sets) → r ≡ kernelsDiffer n x → n ≡ m → r ≡ kernelsDiffer m x
 kernels-whole x h e = h ∙ ap (λ n. kernelsDiffer n x) e
-
-pub passed : {b : Bool} → b ≡ true → T b
-passed e = subst T (sym e) tt
 
 -- a turn of the loop that joins numbers: none of them is other than zero
 pub join-turn : (f : ℕ → ℕ) (a k : ℕ) → eqb a 0 ≡ allBelow k (λ j. eqb (f j) 0) → eqb (bitOr a (f k)) 0 ≡ allBelow (k + 1) (λ j. eqb (f j) 0)

@@ -1,14 +1,13 @@
 -- The bits that a set may have: 18 words as a set's own, a bit for each item and then one for each reduction. Assumes nothing.
 use mathlib.Core.List.{List}
 use Prim.Native.Nat.{ℕ, _+_, _≤_, _<_}
-use lib.Dec.{eqb, leb}
+use lib.Dec.{leb}
 use lib.ListN.{replicate}
 use Rattle.laws.specs.Choice.{_and_, when}
 use Rattle.laws.specs.Loops.{upTo}
-use Rattle.symbols.specs.Symbol.{START}
 use Rattle.kernels.specs.Kernel.{item, put}
-use Rattle.theory.specs.Table.{CURRENT}
 use Rattle.table.specs.Layout.{rulesIn, ruleNumber}
+use Rattle.table.specs.Start.{putStarts}
 
 abbrev pub noBits : List ℕ
 noBits = replicate 18 0
@@ -27,13 +26,9 @@ putNamed rs last r ws =
 unfoldable pub named : List ℕ → ℕ → List ℕ
 named rs last = upTo (rulesIn rs) (putNamed rs last) noBits
 
--- the first item of rule r, if it is a current START rule
-unfoldable pub putStart : List ℕ → ℕ → List ℕ → List ℕ
-putStart rs r ws = when (eqb (ruleNumber rs r 0) CURRENT and eqb (ruleNumber rs r 1) START) (put ws 0 (item r 0)) ws
-
 -- "every current START rule with dot 0"
 unfoldable pub starts : List ℕ → List ℕ
-starts rs = upTo (rulesIn rs) (putStart rs) noBits
+starts rs = putStarts rs noBits
 
 -- no right side is longer than its places, so that every item has its bit
 abbrev pub Short : List ℕ → Type 0

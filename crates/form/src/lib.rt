@@ -87,7 +87,7 @@ fn start_fits(rules: &[u8], cells: &[u8], words: &[u64]) -> bool
         return false;
     }
     let mut starts = [0u64; 18];
-    masks::put_starts(rules, &mut starts);
+    table::put_starts(rules, &mut starts);
     kernels::equal(words, 0, &starts, 0)
 }
 

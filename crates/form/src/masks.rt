@@ -1,12 +1,11 @@
 // The bits that a set may have, put into 18 words as a set has them: bit 8 r + d is rule r with dot d, bit 1024 + r its
 // reduction.
-use symbols::Symbol;
 ghost use mathlib.Core.Path.{_≡_};
 ghost use Prim.Native.Nat.{_+_, _*_, _<_, _≤_};
 ghost use lib.ListN.{length};
 ghost use Rattle.laws.specs.Loops.{upTo};
 ghost use Rattle.table.specs.Layout.{rulesIn, ruleNumber};
-ghost use Rattle.form.specs.Masks.{Short, putItems, putNamed, putStart};
+ghost use Rattle.form.specs.Masks.{Short, putItems, putNamed};
 
 // Puts the items and the reduction of every rule whose state is 1 to `last`.
 pub fn put_named(rules: &[u8], mask: &mut [u64], last: u8)
@@ -49,31 +48,4 @@ fn put_items(mask: &mut [u64], r: usize, n: usize)
         kernels::put(mask, 0, r * 8 + d);
         d += 1;
     }
-}
-
-// Puts the first item of every current START rule.
-pub fn put_starts(rules: &[u8], mask: &mut [u64])
-    requires { ⌜ (2 + rulesIn (now rules) * 10 ≤ length (now rules)) × (rulesIn (now rules) ≤ 128) × (length (now mask) ≡ 18) ⌝ }
-    ensures { λ _. ⌜ now (mask .exit) ≡ upTo (rulesIn (now (rules .entry))) (putStart (now (rules .entry))) (now (mask .entry)) ⌝ }
-{
-    let n = table::rules_in(rules);
-    let mut r: usize = 0;
-    while r < n {
-        put_start(rules, mask, r);
-        r += 1;
-    }
-}
-
-// Puts that of rule r.
-fn put_start(rules: &[u8], mask: &mut [u64], r: usize)
-    requires { ⌜ (2 + r * 10 + 10 ≤ length (now rules)) × (r < 128) × (length (now mask) ≡ 18) ⌝ }
-    ensures { λ _. ⌜ now (mask .exit) ≡ putStart (now (rules .entry)) r (now (mask .entry)) ⌝ }
-{
-    if table::state(rules, r) != table::CURRENT {
-        return;
-    }
-    if table::left(rules, r) != Symbol::START.0 as usize {
-        return;
-    }
-    kernels::put(mask, 0, r * 8);
 }

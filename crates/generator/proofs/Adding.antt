@@ -28,12 +28,12 @@ use Rattle.theory.proofs.Accepted.{placed}
 use Rattle.theory.proofs.Freed.{used-stays, none-withdrawn}
 use Rattle.table.specs.Layout.{rulesIn, viewRules}
 use Rattle.table.specs.Laid.{FormedRules}
-use Rattle.table.proofs.Read.{rule-read}
+use Rattle.table.proofs.Read.{rule-read, view-length}
 use Rattle.changes.specs.Change.{placeOf}
 use Rattle.generator.specs.declared.find.Found.{Found}
 use Rattle.generator.specs.Find.{hasState, isAt, lowest}
 use Rattle.generator.specs.Calls.{withSets, addLater, AddFound}
-use Rattle.generator.proofs.Search.{places, some-lowest, free-is, full-is}
+use Rattle.generator.proofs.Search.{some-lowest, free-is, full-is}
 use Rattle.generator.proofs.Checked.{is-rule, rule-well, place-is, search-is}
 
 abbrev found : Answer → ℕ → Rule → Found
@@ -70,7 +70,7 @@ module _ (rs : List ℕ) (x : ℕ) (w : List ℕ) (k : Checked) (c : RuleChecked
     -- 15
     pub add-there : r < n → AddFound rs x w (found There 0 (k .rule))
     add-there l =
-        let below : lowestRule (isRule CURRENT x w) (viewRules rs) < length (viewRules rs) = omega (arith, current, places rs) in
+        let below : lowestRule (isRule CURRENT x w) (viewRules rs) < length (viewRules rs) = omega (arith, current, view-length rs) in
         let some : someIn (isRule CURRENT x w) (viewRules rs) ≡ true = some-lowest (isRule CURRENT x w) (viewRules rs) ∙ lt-ltb _ _ below in
         record {
           refuses = λ _ ss. sym (when-yes _ (eq-eqb _ _ (is-rule x w k c done)) (when-yes _ some refl));
@@ -82,7 +82,7 @@ module _ (rs : List ℕ) (x : ℕ) (w : List ℕ) (k : Checked) (c : RuleChecked
     module _ (absent : n ≤ r) {b : Bool} (all : b ≡ allBelow (rulesIn rs) (hasState rs 1)) where
       none : someIn (isRule CURRENT x w) (viewRules rs) ≡ false
       none =
-          let beyond : length (viewRules rs) ≤ lowestRule (isRule CURRENT x w) (viewRules rs) = omega (arith, current, places rs) in
+          let beyond : length (viewRules rs) ≤ lowestRule (isRule CURRENT x w) (viewRules rs) = omega (arith, current, view-length rs) in
           some-lowest (isRule CURRENT x w) (viewRules rs) ∙ le-ltb _ _ beyond
 
       -- 17
@@ -111,7 +111,7 @@ module _ (rs : List ℕ) (x : ℕ) (w : List ℕ) (k : Checked) (c : RuleChecked
           -- "a withdrawn rule that is equal takes its own number back"
           pub add-back : {m : ℕ} → m ≡ rulesIn rs → q < m → AddFound rs x w (found Done q (k .rule))
           add-back p l =
-              let below : lowestRule (isRule WITHDRAWN x w) (viewRules rs) < length (viewRules rs) = omega (arith, number, places rs) in
+              let below : lowestRule (isRule WITHDRAWN x w) (viewRules rs) < length (viewRules rs) = omega (arith, number, view-length rs) in
               record {
                 refuses = λ z. absurd (z refl);
                 adds = λ _ _ ss. past ss ∙ sym (when-yes _ (lt-ltb _ _ below) (at ss number));
@@ -123,20 +123,20 @@ module _ (rs : List ℕ) (x : ℕ) (w : List ℕ) (k : Checked) (c : RuleChecked
           pub add-free : {m : ℕ} → m ≡ rulesIn rs → m ≤ q → (i : ℕ) → i ≡ lowest (rulesIn rs) (hasState rs 0) → AddFound rs x w (found Done i (k .rule))
           add-free p l i h =
               let free : i ≡ lowestRule isFree (viewRules rs) = h ∙ free-is rs in
-              let beyond : length (viewRules rs) ≤ lowestRule (isRule WITHDRAWN x w) (viewRules rs) = omega (arith, number, places rs) in
+              let beyond : length (viewRules rs) ≤ lowestRule (isRule WITHDRAWN x w) (viewRules rs) = omega (arith, number, view-length rs) in
               record {
                 refuses = λ z. absurd (z refl);
                 adds = λ _ j ss.
-                    let below : lowestRule isFree (viewRules rs) < length (viewRules rs) = omega (arith, places rs) in
+                    let below : lowestRule isFree (viewRules rs) < length (viewRules rs) = omega (arith, view-length rs) in
                     past ss ∙ sym (when-no _ (le-ltb _ _ beyond) (when-yes _ (lt-ltb _ _ below) (at ss free)));
                 collects = λ _ j ss.
-                    let none-free : length (viewRules rs) ≤ lowestRule isFree (viewRules rs) = omega (arith, places rs) in
+                    let none-free : length (viewRules rs) ≤ lowestRule isFree (viewRules rs) = omega (arith, view-length rs) in
                     let later = free-after (viewRules rs) states some in (
                       past ss ∙ sym (when-no _ (le-ltb _ _ beyond) (when-no _ (le-ltb _ _ none-free) (ap (addLater (withSets rs ss)) (place-is x w k c done CURRENT)))),
-                      omega (arith, places rs),
+                      omega (arith, view-length rs),
                     );
                 rule = λ _. rule-well x w k c done;
               }
             where
               states : (r : ℕ) → r < length (viewRules rs) → ruleAt (viewRules rs) r .state ≤ WITHDRAWN
-              states r l = let m : r < rulesIn rs = omega (arith, places rs) in subst (λ p. p .state ≤ WITHDRAWN) (sym (rule-read rs r m)) (f .form r m .states)
+              states r l = let m : r < rulesIn rs = omega (arith, view-length rs) in subst (λ p. p .state ≤ WITHDRAWN) (sym (rule-read rs r m)) (f .form r m .states)

@@ -13,15 +13,15 @@ use Rattle.theory.specs.Expansion.{collected}
 use Rattle.theory.specs.Calls.{putRule, lowestRule, isFree, restarted}
 use Rattle.theory.proofs.FormRestarted.{start-bare}
 use Rattle.table.specs.Layout.{Mem, Sets, rulesIn, view}
-use Rattle.table.specs.Laid.{Formed}
+use Rattle.table.specs.Laid.{Formed, HasRow}
 use Rattle.table.specs.Becomes.{Becomes}
-use Rattle.changes.specs.Touch.{Room}
 use Rattle.changes.specs.Change.{placeOf, MayPut, startUnexpanded, StartUnexpanded}
+use Rattle.table.proofs.Becoming.{rules-seen, becomes-then}
 use Rattle.generator.specs.declared.find.Found.{Found}
 use Rattle.generator.specs.Find.{hasState, lowest}
 use Rattle.generator.specs.Calls.{Does, addLater, LaterFree, DeleteFound, AddFound}
 use Rattle.generator.proofs.Search.{free-is}
-use Rattle.generator.proofs.Promises.{does, rules-seen, then, touched-length, collected-sets, collected-rules}
+use Rattle.generator.proofs.Promises.{does, touched-length, collected-sets, collected-rules}
 
 -- ---- a number found, the rule put there
 
@@ -47,7 +47,7 @@ module _ (m n : Mem) (x : Rule) (b : Becomes m n (collected (view m))) (free : L
   pub later-does : (p : Mem) → Becomes n p (putRule (view n) r (placeOf CURRENT x)) → Does (addLater (view m) (placeOf CURRENT x)) m p 0 r
   later-does p c = does (ap (λ i. outcome 0 i (putRule (collected (view m)) i (placeOf CURRENT x))) (sym number))
       (subst (λ t. Becomes m p (putRule t r (placeOf CURRENT x))) (b .seen)
-      (then m n p (collected (view m)) (putRule (view n) r (placeOf CURRENT x)) b c
+      (becomes-then m n p (collected (view m)) (putRule (view n) r (placeOf CURRENT x)) b c
       (touched-length (set (view n .rules) r (placeOf CURRENT x)) (x .left .0) (view n .sets) ∙ ap (λ t. length (t .sets)) (b .seen))
       (length-set (view n .rules) r (placeOf CURRENT x) ∙ ap (λ t. length (t .rules)) (b .seen))))
 
@@ -57,7 +57,7 @@ module _ (rs : List ℕ) (x : Sets) (f : Formed (record { rules = rs; sets = x }
   abbrev before : Mem
   before = record { rules = rs; sets = x }
 
-  pub start-room : Room 0 x
+  pub start-room : HasRow 0 x
   start-room = let z = f .laid .sized in let a = z .some-sets in let b = z .cells in let c = z .words in record { cells = omega arith; words = omega arith }
 
   module _ (y : Sets) (u : StartUnexpanded x y) where
@@ -73,4 +73,4 @@ module _ (rs : List ℕ) (x : Sets) (f : Formed (record { rules = rs; sets = x }
     pub restart-becomes : (p : Mem) → Becomes between p (collected (view between)) → Becomes before p (restarted (view before))
     restart-becomes p b =
         let c : Becomes between p (restarted (view before)) = subst (λ t. Becomes between p (collected t)) (step .seen) b in
-        then before between p (startUnexpanded (view before)) (restarted (view before)) step c (collected-sets (startUnexpanded (view before))) (collected-rules (startUnexpanded (view before)))
+        becomes-then before between p (startUnexpanded (view before)) (restarted (view before)) step c (collected-sets (startUnexpanded (view before))) (collected-rules (startUnexpanded (view before)))

@@ -20,10 +20,11 @@ use Rattle.theory.specs.Parse.{outcome}
 use Rattle.theory.specs.Calls.{refused, putRule, isRule, lowestRule}
 use Rattle.table.specs.Layout.{rulesIn, viewRules}
 use Rattle.table.specs.Laid.{FormedRules}
+use Rattle.table.proofs.Read.{view-length}
 use Rattle.generator.specs.declared.find.Found.{Found}
 use Rattle.generator.specs.Find.{isAt, lowest}
 use Rattle.generator.specs.Calls.{withSets, DeleteFound}
-use Rattle.generator.proofs.Search.{places, some-lowest}
+use Rattle.generator.proofs.Search.{some-lowest}
 use Rattle.generator.proofs.Checked.{is-rule, rule-well, place-is, search-is}
 
 abbrev found : Answer → ℕ → Rule → Found
@@ -46,7 +47,7 @@ module _ (rs : List ℕ) (x : ℕ) (w : List ℕ) (k : Checked) (c : RuleChecked
     -- 16
     pub delete-absent : {n : ℕ} → n ≡ rulesIn rs → n ≤ r → DeleteFound rs x w (found NotThere 0 (k .rule))
     delete-absent p l =
-        let beyond : length (viewRules rs) ≤ lowestRule (isRule CURRENT x w) (viewRules rs) = omega (arith, number, places rs) in
+        let beyond : length (viewRules rs) ≤ lowestRule (isRule CURRENT x w) (viewRules rs) = omega (arith, number, view-length rs) in
         let none : someIn (isRule CURRENT x w) (viewRules rs) ≡ false = some-lowest (isRule CURRENT x w) (viewRules rs) ∙ le-ltb _ _ beyond in
         record {
           refuses = λ _ ss. sym (when-yes _ (eq-eqb _ _ (is-rule x w k c done)) (when-no _ none refl));
@@ -57,7 +58,7 @@ module _ (rs : List ℕ) (x : ℕ) (w : List ℕ) (k : Checked) (c : RuleChecked
 
     pub delete-there : {n : ℕ} → n ≡ rulesIn rs → r < n → DeleteFound rs x w (found Done r (k .rule))
     delete-there p l =
-        let below : lowestRule (isRule CURRENT x w) (viewRules rs) < length (viewRules rs) = omega (arith, number, places rs) in
+        let below : lowestRule (isRule CURRENT x w) (viewRules rs) < length (viewRules rs) = omega (arith, number, view-length rs) in
         let some : someIn (isRule CURRENT x w) (viewRules rs) ≡ true = some-lowest (isRule CURRENT x w) (viewRules rs) ∙ lt-ltb _ _ below in
         record {
           refuses = λ z. absurd (z refl);

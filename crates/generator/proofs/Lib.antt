@@ -1,5 +1,4 @@
 -- From the code's searches to the model's calls.
-pub mod Lowest
 pub mod States
 pub mod Search
 pub mod Checked
@@ -8,5 +7,4 @@ pub mod Adding
 pub mod Promises
 pub mod Changing
 pub mod Calls
-pub mod Listed
 pub mod OneOutcome

@@ -2,7 +2,6 @@
 use mathlib.Core.List.{List}
 use mathlib.Core.Path.{_≡_, refl, sym, ap, subst, _∙_}
 use Prim.Native.Nat.{ℕ}
-use native.Mathlib.Omega.{arith}
 use lib.Dec.{T, eqb}
 use lib.ListN.{length, length-set, length-map}
 use Rattle.laws.proofs.Choice.{when-cases}
@@ -14,15 +13,13 @@ use Rattle.theory.specs.Form.{inForm}
 use Rattle.theory.specs.Expansion.{collected}
 use Rattle.theory.specs.Calls.{refused, checked, touched}
 use Rattle.theory.proofs.Form.{in-form}
-use Rattle.table.specs.Layout.{Mem, setsIn, rulesIn, ruleSeen, setSeen, view}
-use Rattle.table.specs.Laid.{Laid, Formed}
+use Rattle.table.specs.Layout.{Mem, view}
+use Rattle.table.specs.Laid.{Formed}
 use Rattle.table.specs.Becomes.{Becomes, Promised}
+use Rattle.table.proofs.Becoming.{becomes-none}
 use Rattle.generator.specs.Calls.{Does}
 
 -- ---- promises
-
-pub nothing-done : {m : Mem} → Laid m → Becomes m m (view m)
-nothing-done l = record { laid = l; seen = refl; rules = λ k h. refl; cells = λ k h. refl; words = λ k h. refl }
 
 -- a table in form passes the model's test
 passes : (t : Table) (o : Outcome) → T (inForm t) → checked t o ≡ o
@@ -45,32 +42,12 @@ no-table call m g = record { answer = λ f. absurd (g f); number = λ f. absurd 
 
 -- on a table in form
 pub does-nothing : {m : Mem} {o : Outcome} {a : ℕ} → Formed m → o ≡ refused a (view m) → Does o m m a 0
-does-nothing {m} f e = record { answer = ap (λ o. o .answer) (sym e); number = ap (λ o. o .number) (sym e); table = subst (λ (o : Outcome). Becomes m m (o .table)) (sym e) (nothing-done (f .laid)) }
+does-nothing {m} f e = record { answer = ap (λ o. o .answer) (sym e); number = ap (λ o. o .number) (sym e); table = subst (λ (o : Outcome). Becomes m m (o .table)) (sym e) (becomes-none (f .laid)) }
 
 pub does : {m n : Mem} {o : Outcome} {a k : ℕ} {t : Table} → o ≡ outcome a k t → Becomes m n t → Does o m n a k
 does {m} {n} e b = record { answer = ap (λ o. o .answer) (sym e); number = ap (λ o. o .number) (sym e); table = subst (λ (o : Outcome). Becomes m n (o .table)) (sym e) b }
 
--- ---- one change after the other
-
-sets-seen : (m : Mem) → length (view m .sets) ≡ setsIn (m .rules)
-sets-seen m = length-tab (setsIn (m .rules)) (setSeen (rulesIn (m .rules)) (m .sets))
-
-pub rules-seen : (m : Mem) → length (view m .rules) ≡ rulesIn (m .rules)
-rules-seen m = length-tab (rulesIn (m .rules)) (ruleSeen (m .rules))
-
-pub then : (m n p : Mem) (t u : Table) → Becomes m n t → Becomes n p u → length (u .sets) ≡ length (t .sets) → length (u .rules) ≡ length (t .rules) → Becomes m p u
-then m n p t u a b es er =
-    let s : setsIn (p .rules) ≡ setsIn (n .rules) = sym (sets-seen p) ∙ ap (λ t. length (t .sets)) (b .seen) ∙ es ∙ ap (λ t. length (t .sets)) (sym (a .seen)) ∙ sets-seen n in
-    let r : rulesIn (p .rules) ≡ rulesIn (n .rules) = sym (rules-seen p) ∙ ap (λ t. length (t .rules)) (b .seen) ∙ er ∙ ap (λ t. length (t .rules)) (sym (a .seen)) ∙ rules-seen n in
-    record {
-      laid = b .laid;
-      seen = b .seen;
-      rules = λ k h. b .rules k h ∙ a .rules k (omega arith);
-      cells = λ k h. b .cells k h ∙ a .cells k (omega arith);
-      words = λ k h. b .words k h ∙ a .words k (omega arith);
-    }
-
--- the sizes stay
+-- ---- the sizes stay
 pub touched-length : (rs : List RulePlace) (x : ℕ) (ss : List SetPlace) → length (touched rs x ss) ≡ length ss
 touched-length rs x ss = when-cases (λ (l : List SetPlace). length l ≡ length ss) (eqb x START) (λ e. length-set ss 0 _) (λ e. length-map ss _)
 

@@ -10,8 +10,7 @@ use lib.ListN.{length}
 use Rattle.laws.specs.Loops.{allBelow}
 use Rattle.laws.specs.Lists.{someIn, upFrom}
 use Rattle.laws.proofs.Tests.{and-both, eqb-iff, ltb-iff}
-use Rattle.laws.proofs.Tables.{length-tab}
-use Rattle.laws.proofs.Chosen.{iff-same}
+use Rattle.laws.proofs.Chosen.{iff-same, first-cong}
 use Rattle.laws.proofs.Lists.{some-in, first-in, in-up}
 use Rattle.symbols.specs.Rule.{WellFormed, sameRule, rightSide}
 use Rattle.symbols.specs.declared.rule.Rule.{Rule}
@@ -23,11 +22,11 @@ use Rattle.theory.proofs.Accepted.{is-rule}
 use Rattle.table.specs.Layout.{rulesIn, ruleNumber, ruleSeen, viewRules}
 use Rattle.table.specs.Laid.{FormedRules}
 use Rattle.table.specs.Write.{ruleIn}
-use Rattle.table.proofs.Read.{rule-read}
+use Rattle.table.proofs.Read.{rule-read, view-length}
 use Rattle.table.proofs.RuleNumbers.{in-left, in-right}
 use Rattle.table.proofs.Formed.{formed-well}
+use Rattle.laws.proofs.Loops.{all-cong}
 use Rattle.generator.specs.Find.{hasState, isAt, lowest}
-use Rattle.generator.proofs.Lowest.{lowest-cong, all-cong}
 
 -- a search finds something exactly if there is something
 pub some-lowest : (f : RulePlace → Bool) (rs : List RulePlace) → someIn f rs ≡ ltb (lowestRule f rs) (length rs)
@@ -46,20 +45,17 @@ some-lowest f rs =
     (first-in (λ r. f (ruleAt rs r)) (length rs) (upFrom 0 (length rs))))
 
 module _ (rs : List ℕ) where
-  pub places : length (viewRules rs) ≡ rulesIn rs
-  places = length-tab (rulesIn rs) (ruleSeen rs)
-
   state-read : (state r : ℕ) → r < rulesIn rs → hasState rs state r ≡ eqb (ruleAt (viewRules rs) r .state) state
   unfolding hasState ruleSeen
   state-read state r l = ap (λ (p : RulePlace). eqb (p .state) state) (sym (rule-read rs r l))
 
   pub free-is : lowest (rulesIn rs) (hasState rs 0) ≡ lowestRule isFree (viewRules rs)
-  free-is = lowest-cong (hasState rs 0) (λ r. isFree (ruleAt (viewRules rs) r)) (rulesIn rs) (state-read 0) ∙ ap (λ n. lowest n (λ r. isFree (ruleAt (viewRules rs) r))) (sym places)
+  free-is = first-cong (hasState rs 0) (λ r. isFree (ruleAt (viewRules rs) r)) (rulesIn rs) (upFrom 0 (rulesIn rs)) (λ r m. let (p, q) = in-up 0 (rulesIn rs) .0 m in state-read 0 r (omega arith)) ∙ ap (λ n. lowest n (λ r. isFree (ruleAt (viewRules rs) r))) (sym (view-length rs))
 
   pub full-is : allBelow (rulesIn rs) (hasState rs 1) ≡ allBelow (length (viewRules rs)) (λ r. eqb (ruleAt (viewRules rs) r .state) CURRENT)
   full-is =
       all-cong (hasState rs 1) (λ r. eqb (ruleAt (viewRules rs) r .state) CURRENT) (rulesIn rs) (state-read 1)
-      ∙ ap (λ n. allBelow n (λ r. eqb (ruleAt (viewRules rs) r .state) CURRENT)) (sym places)
+      ∙ ap (λ n. allBelow n (λ r. eqb (ruleAt (viewRules rs) r .state) CURRENT)) (sym (view-length rs))
 
   module _ (f : FormedRules rs) (state : ℕ) (used : 1 ≤ state) (x : Rule) (well : WellFormed x) where
     at-seen : (r : ℕ) → r < rulesIn rs → isAt rs state x r ≡ isRule state (x .left .0) (rightSide x) (ruleSeen rs r)
@@ -89,6 +85,6 @@ module _ (rs : List ℕ) where
     pub found-is : lowest (rulesIn rs) (isAt rs state x) ≡ lowestRule (isRule state (x .left .0) (rightSide x)) (viewRules rs)
     found-is =
         let g : ℕ → Bool = λ r. isRule state (x .left .0) (rightSide x) (ruleAt (viewRules rs) r) in
-        lowest-cong (isAt rs state x) g (rulesIn rs)
-        (λ r l. at-seen r l ∙ ap (isRule state (x .left .0) (rightSide x)) (sym (rule-read rs r l)))
-        ∙ ap (λ n. lowest n g) (sym places)
+        first-cong (isAt rs state x) g (rulesIn rs) (upFrom 0 (rulesIn rs))
+        (λ r m. let (p, q) = in-up 0 (rulesIn rs) .0 m in let l : r < rulesIn rs = omega arith in at-seen r l ∙ ap (isRule state (x .left .0) (rightSide x)) (sym (rule-read rs r l)))
+        ∙ ap (λ n. lowest n g) (sym (view-length rs))

@@ -1,4 +1,3 @@
 -- What the contracts of the calls cite.
 pub mod Find
 pub mod Calls
-pub mod Listing

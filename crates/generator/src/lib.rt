@@ -23,7 +23,6 @@ ghost use Rattle.generator.specs.Calls.{NewPromised};
 
 mod change; // change.rt: Add and Delete on a table in form
 mod find; // find.rt: their checks
-pub mod listing; // listing.rt: what a listing asks
 mod pool; // pool.rt: New's check
 
 // What Add and Delete answer: the number of the rule, 0 on a refusal.

@@ -164,10 +164,3 @@ pub put-other : (w b j : ℕ) → j ≢ b → bit (putBit w b) j ≡ bit w j
 put-other w b j n =
     ap (λ x. bit x j) (sym (or-pow w b)) ∙ bit-or w (2 ^ b) j ∙ ap (bitOr (bit w j)) (pow-other b j n)
     ∙ or-zero-r (bit w j)
-
--- a bit that is set already
-pub put-there : (w b : ℕ) → bit w b ≡ 1 → putBit w b ≡ w
-unfolding putBit
-put-there w b e =
-    let z : (1 - bit w b) * 2 ^ b ≡ 0 = ap (λ x. (1 - x) * 2 ^ b) e ∙ zero-mul (2 ^ b) in
-    omega arith

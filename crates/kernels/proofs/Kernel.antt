@@ -7,16 +7,16 @@ use Prim.Native.Nat.{ℕ, _+_, _*_, _/_, _%_, _^_, _≤_, _<_}
 use native.Mathlib.Omega.{arith}
 use native.Mathlib.Decide.{ℕ-discrete}
 use lib.Dec.{T, eqb}
-use lib.ListN.{length, getD, set, length-set}
+use lib.ListN.{length, getD, length-set}
 use lib.Pow.{pow-pos}
-use lib.Seq.{ext-getD, getD-set-same, getD-set-other, set-getD}
+use lib.Seq.{ext-getD, getD-set-same, getD-set-other}
 use Rattle.laws.proofs.Tests.{eqb-iff, all-below}
 use Rattle.kernels.specs.Bit.{bit, putBit}
 use Rattle.kernels.specs.Walk.{howMany}
 use Rattle.kernels.specs.Write.{writeWords}
 use Rattle.kernels.specs.Kernel.{item, has, put, items, empty, same}
-use Rattle.kernels.proofs.Bit.{bit-lt, bit-cases, bit-of-zero, word-ext, put-same, put-other, put-there, put-lt}
-use Rattle.kernels.proofs.Walk.{many-cong, many-add, many-le, many-put}
+use Rattle.kernels.proofs.Bit.{bit-lt, bit-cases, bit-of-zero, word-ext, put-same, put-other, put-lt}
+use Rattle.kernels.proofs.Walk.{many-cong, many-add, many-le}
 use Rattle.kernels.proofs.Write.{write-in, write-out}
 
 -- "Items are ordered by rule number, then dot"
@@ -108,13 +108,6 @@ module _ (ws : List ℕ) (at i : ℕ) where
   unfolding put
   length-put = simp length-set
 
-  -- an item that is there already
-  pub put-again : has ws at i ≡ 1 → put ws at i ≡ ws
-  unfolding has put
-  put-again h =
-      let p = at + i / 64 in
-      ap (set ws p) (put-there (getD ws p 0) (i % 64) h) ∙ set-getD ws p 0
-
   -- the other words
   pub put-out : (p : ℕ) → p ≢ at + i / 64 → getD (put ws at i) p 0 ≡ getD ws p 0
   unfolding put
@@ -149,11 +142,6 @@ module _ (ws : List ℕ) (at i : ℕ) where
       | yes e ↦ rw (e, put-in) (put-lt 64 (getD ws (at + i / 64) 0) (i % 64) (rw e at h) (omega arith))
       | no f ↦ rw (put-out p f) h
     ]
-
-    -- one item more, where it was not there
-    pub items-put : i < 1024 → has ws at i ≡ 0 → items (put ws at i) at ≡ items ws at + 1
-    unfolding items
-    items-put l z = many-put (has (put ws at i) at) (has ws at) i 1024 l z has-put-same has-put-other
 
 -- ---- how many items
 

@@ -5,4 +5,5 @@ pub mod Write
 pub mod Kernel
 pub mod Subset
 pub mod NextBit
-pub mod FindSet
+pub mod KernelWalk
+pub mod Puts

@@ -1,4 +1,4 @@
--- The least bit from a number on, which `next` looks for: how its loop comes to it, and a walk over all bits. Assumes nothing.
+-- The next bit, which `next` looks for: how its loop comes to it, what its answer says, and that there is one answer only. Assumes nothing.
 use mathlib.Core.Path.{_≡_, refl, sym, ap, ap₂, _∙_, subst}
 use mathlib.Core.List.{List}
 use Prim.Native.Nat.{ℕ, _+_, _-_, _*_, _/_, _%_, _^_, _≤_, _<_}
@@ -6,12 +6,10 @@ use native.Mathlib.Omega.{arith}
 use native.Mathlib.Decide.{decLt}
 use lib.ListN.{getD}
 use Rattle.kernels.specs.Bit.{bit, Lowest}
-use Rattle.kernels.specs.Walk.{visit}
 use Rattle.kernels.specs.Kernel.{has, Least, Next}
 use Rattle.kernels.specs.declared.Found.{Found}
 use Rattle.kernels.specs.declared.Found.the-variants.{At, Nothing}
 use Rattle.kernels.proofs.Bit.{bit-of-zero, bit-high, bit-shr}
-use Rattle.kernels.proofs.Walk.{visit-step, visit-skip}
 use Rattle.kernels.proofs.Kernel.{has-at}
 
 module _ (ws : List ℕ) (at : ℕ) where
@@ -99,18 +97,3 @@ module _ (ws : List ℕ) (at : ℕ) where
   next-unique n from (At i) Nothing a b = let z : has ws at i ≡ 0 = b i (a .above) (a .inside) in absurd (omega (arith, a .there))
   next-unique n from Nothing (At j) a b = let z : has ws at j ≡ 0 = a j (b .above) (b .inside) in absurd (omega (arith, b .there))
   next-unique n from Nothing Nothing a b = refl
-
--- ---- a walk by `next`: x is what it has made of the numbers below i
-
-module _ {ℓ} {A : Type ℓ} (f : ℕ → A → A) (a : A) where
-  -- a turn, at the next number
-  pub visit-next : {ws : List ℕ} {at n i j : ℕ} {x : A} → x ≡ visit f (has ws at) i a → Least ws at n i j
-      → f j x ≡ visit f (has ws at) (j + 1) a
-  visit-next {ws} {at} {n} {i} {j} so-far l =
-      ap (f j) (so-far ∙ sym (visit-skip f (has ws at) i j a (l .above) (l .none)))
-      ∙ sym (visit-step f (has ws at) j a (l .there))
-
-  -- the end, where there is none
-  pub visit-end : (ws : List ℕ) (at n : ℕ) {i : ℕ} {x : A} → i ≤ n * 64 → x ≡ visit f (has ws at) i a → NoneIn ws at i (n * 64)
-      → x ≡ visit f (has ws at) (n * 64) a
-  visit-end ws at n {i} l so-far none = so-far ∙ sym (visit-skip f (has ws at) i (n * 64) a l none)

@@ -6,6 +6,7 @@ use Prim.Native.Nat.{ℕ, _+_, _-_, _*_, _/_, _%_, _≤_, _<_}
 use lib.Bits.{bitOr}
 use lib.Dec.{eqb}
 use lib.ListN.{getD, set}
+use Rattle.laws.specs.Choice.{when}
 use Rattle.laws.specs.Loops.{allBelow}
 use Rattle.laws.specs.Lists.{firstIn, upFrom}
 use Rattle.kernels.specs.Bit.{bit, putBit}
@@ -29,6 +30,10 @@ holds ws at i = eqb (has ws at i) 1
 -- the words with item i put into the kernel at `at`
 unfoldable pub put : List ℕ → ℕ → ℕ → List ℕ
 put ws at i = let p = at + i / 64 in set ws p (putBit (getD ws p 0) (i % 64))
+
+-- the same where a test passes
+unfoldable pub putIf : Bool → List ℕ → ℕ → List ℕ
+putIf b ws i = when b (put ws 0 i) ws
 
 -- "how many items a kernel holds"
 unfoldable pub items : List ℕ → ℕ → ℕ

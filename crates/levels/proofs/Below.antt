@@ -96,10 +96,6 @@ module _ {b : List ℕ} {links nodes : ℕ} {w : List ℕ} {from n side : ℕ} w
 
 -- ---- k levels
 
-down-in : {b : List ℕ} {nodes links n k m : ℕ} → Chained b nodes links → n < nodes → Down b links n k m → m < nodes
-down-in C h stay = h
-down-in C h (on p e) = let i = C .under-in (e .k) (e .some) (e .inside) in let f = e .to in omega arith
-
 down-back : {b : List ℕ} {links n k m : ℕ} → Down b links n (suc k) m → (a : ℕ) × Down b links n k a × Edge b links a m
 down-back (on {a = a} p e) = (a, p, e)
 

@@ -13,7 +13,7 @@ use Rattle.laws.specs.Choice.{Tells}
 use Rattle.laws.specs.Lists.{Distinct, upFrom}
 use Rattle.laws.specs.Lists.Distinct.{none, one-more}
 use Rattle.laws.proofs.Choice.{tells-eqb}
-use Rattle.laws.proofs.Lists.{in-up}
+use Rattle.laws.proofs.Lists.{in-up, up-length}
 use Rattle.theory.proofs.Counting.{no-longer}
 use Rattle.levels.specs.Lists.{listed, On, Listed, Made, Puts}
 
@@ -30,10 +30,6 @@ in-down f (suc c) m = ⊎-elim (λ e. (c, omega arith, e)) (λ k. let (i, l, e) 
 length-down : (f : ℕ → ℕ) (c : ℕ) → length (down-to f c) ≡ c
 length-down f zero = refl
 length-down f (suc c) = ap suc (length-down f c)
-
-length-up : (i n : ℕ) → length (upFrom i n) ≡ n
-length-up i zero = refl
-length-up i (suc n) = ap suc (length-up (suc i) n)
 
 distinct-down : (f : ℕ → ℕ) (c : ℕ) → ((i j : ℕ) → i < j → j < c → f i ≢ f j) → Distinct (down-to f c)
 distinct-down f zero h = none
@@ -52,14 +48,14 @@ module _ {w : List ℕ} {side c nodes : ℕ} (L : Listed w side c nodes) where
 
   -- a list is no longer than there are nodes, and has room for one that is not in it
   pub few : c ≤ nodes
-  few = omega (arith, no-longer once-on (upFrom 0 nodes) in-range, length-down (λ i. listed w side i) c, length-up 0 nodes)
+  few = omega (arith, no-longer once-on (upFrom 0 nodes) in-range, length-down (λ i. listed w side i) c, up-length 0 nodes)
 
   pub room : (n : ℕ) → n < nodes → (On w side c n → ⊥) → c < nodes
   room n l d =
       let k : length (n ∷ nodes-on) ≤ length (upFrom 0 nodes) =
       no-longer (one-more (λ m. let (i, h, e) = in-down (λ i. listed w side i) c m in d (record { i = i; low = h; is = sym e })) once-on) (upFrom 0 nodes)
       (λ x m. ⊎-elim (λ e. in-up 0 nodes .1 (zero-le, omega arith)) (in-range x) (List·Memᴰ·cases-cons m)) in
-      omega (arith, length-down (λ i. listed w side i) c, length-up 0 nodes)
+      omega (arith, length-down (λ i. listed w side i) c, up-length 0 nodes)
 
 -- ---- whether node n is in the list: i is what the index has for it
 

@@ -21,11 +21,10 @@ use Rattle.theory.specs.Expansion.{Found, found, setWith, lowestFree}
 use Rattle.theory.proofs.Sets.{lowest-free}
 use Rattle.table.specs.Layout.{Sets, sets, cell, bitOf, stateOf, kernelSeen, transitionsSeen, reductionsSeen, setSeen, viewSets}
 use Rattle.table.specs.Laid.{LaidSet}
-use Rattle.table.proofs.Read.{set-read}
+use Rattle.table.proofs.Read.{set-read, state-free}
 use Rattle.table.proofs.Rows.{SameRow, row-seen, row-laid, kernel-cong, transitions-none, reductions-none}
 use Rattle.collection.specs.Room.{InTables}
 use Rattle.lookup.specs.Lookup.{made, SetsBecome, Asked, Answered}
-use Rattle.lookup.proofs.SameKernel.{state-free}
 
 -- the lowest free set of the slices is the model's, and stands in the pool
 lowest-is : {S r : ℕ} (n : ℕ) (x : Sets) → InTables S (x .cells) (λ t. lowestFree (t .sets)) r → r ≡ lowestFree (viewSets S n x)

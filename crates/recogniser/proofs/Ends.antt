@@ -1,25 +1,19 @@
 -- A settled position's ways on: the verdict at the end of the line, else a token that no node takes, a link too many, or the next
 -- position. Assumes nothing.
 use mathlib.Core.Path.{_≡_, refl, sym, ap, subst, subst₂}
-use mathlib.Core.Logic.{_≢_, inl, inr, ⊎-elim}
-use mathlib.Core.List.{List, [], _∷_, List·Memᴰ as In, List·Memᴰ·cases-cons}
-use Prim.Native.Nat.{ℕ, suc, _≤_}
+use mathlib.Core.Logic.{_≢_}
+use mathlib.Core.List.{List, [], _∷_}
+use Prim.Native.Nat.{ℕ}
 use native.Mathlib.Numerals.{add-one}
-use native.Mathlib.Decide.{ℕ-discrete}
 use native.Mathlib.Omega.{arith}
 use lib.ListN.{length}
-use Rattle.laws.specs.Lists.{addNew}
-use Rattle.laws.specs.Lists.Distinct.{one-more}
-use Rattle.laws.proofs.Lists.{in-add, distinct-add}
 use Rattle.symbols.specs.Answer.{numberOf}
 use Rattle.symbols.specs.declared.answer.Answer.{Answer}
 use Rattle.symbols.specs.declared.answer.Answer.the-variants.{Accept, Reject, NoLinks}
-use Rattle.theory.specs.Table.{Table, target}
-use Rattle.theory.specs.Parse.{Link, link, sameLink, nodesAt, outcome, shifts}
+use Rattle.theory.specs.Table.{Table}
+use Rattle.theory.specs.Parse.{outcome}
 use Rattle.theory.specs.Steps.{Shifted}
 use Rattle.theory.specs.Steps.Steps.{accepts, rejects, stuck, shift-full, shifts as shifts-on}
-use Rattle.theory.proofs.Counting.{no-longer}
-use Rattle.theory.proofs.Exact.{same-link, in-nodesAt, in-shifts}
 use Rattle.theory.proofs.Grounded.{Grounded, shifted-grounded}
 use Rattle.table.specs.Layout.{Mem, view}
 use Rattle.links.specs.declared.Here.{Here}
@@ -27,6 +21,7 @@ use Rattle.links.specs.declared.Counts.{Counts}
 use Rattle.links.specs.Records.{Graph, graph, linksOf}
 use Rattle.links.proofs.Listed.{count}
 use Rattle.saturation.specs.Ends.{Shifts, Accepting}
+use Rattle.theory.proofs.Shifting.{shifting, not-fewer, none-new}
 use Rattle.recogniser.specs.declared.Verdict.{Verdict}
 use Rattle.recogniser.specs.Reading.{Settles, Refuses, SettlesOr, Advances, AdvancesOr, Finishes}
 use Rattle.recogniser.specs.declared.line.Advanced.the-variants.{On, Ends}
@@ -84,34 +79,6 @@ refuses a r w = record { kept = r .kept; steps = r .steps w }
 
 -- ---- a settled one
 
--- there is such a list
-shifting : (t : Table) (p x : ℕ) (m : List Link) → Grounded t p m → (n : List Link) × Shifted t p x m n
-shifting t p x m 𝓖 = (
-  addNew sameLink m (shifts t m p x),
-  record {
-    once = distinct-add sameLink same-link m (shifts t m p x) (𝓖 .once);
-    all = λ l. (
-      λ k. ⊎-elim inl (λ o. let (u, s, a, g, e) = in-shifts t m p x .0 o in inr (u, s, in-nodesAt m p .1 a, g, e)) (in-add sameLink same-link m (shifts t m p x) .0 k),
-      λ k. in-add sameLink same-link m (shifts t m p x) .1 (⊎-elim inl (λ (u, s, a, g, e). inr (in-shifts t m p x .1 (u, s, in-nodesAt m p .0 a, g, e))) k),
-    );
-  },
-)
-
-module _ {t : Table} {p x : ℕ} {m n : List Link} (𝓖 : Grounded t p m) (s : Shifted t p x m n) where
-  not-fewer : length m ≤ length n
-  not-fewer = no-longer (𝓖 .once) n (λ l i. s .all l .1 (inl i))
-
-  -- a link to the next position is new
-  none-new : length n ≡ length m → (u : ℕ) → In u (nodesAt m p) → target (t .sets) u x ≡ 0
-  none-new e u a = elim (ℕ-discrete (target (t .sets) u x) 0) [
-    | yes z ↦ z
-    | no d ↦
-        let l = link (suc p) (target (t .sets) u x) p u in
-        let k = no-longer (one-more {x = l} (λ i. let h = 𝓖 .low l i in omega arith) (𝓖 .once)) n
-        (λ y i. s .all y .1 (⊎-elim (λ q. inr (u, target (t .sets) u x, a, (refl, d), q)) inl (List·Memᴰ·cases-cons i))) in
-        absurd (omega arith)
-  ]
-
 module _ {h : Here} {m : Mem} {x : Graph} {n : Mem} {y : Graph} (S : Settles h m x n y) where
   abbrev t : Table
   t = view n
@@ -144,8 +111,8 @@ module _ {h : Here} {m : Mem} {x : Graph} {n : Mem} {y : Graph} (S : Settles h m
     ends-over e w = record {
       kept = S .kept;
       steps =
-          let (l, s) = shifting t p k (linksOf y) (S .stands .grounded) in
-          let f = D .more e l s in
+          let s = shifting t p k (linksOf y) (S .stands .grounded) in
+          let f = D .more e _ s in
           S .back (k ∷ w) _ (shift-full (S .ready) s (let g = S .ready .in-pool in omega arith) f refl);
     }
 

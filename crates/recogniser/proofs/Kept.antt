@@ -4,21 +4,15 @@ use mathlib.Core.Bool.{Bool}
 use Prim.Native.Nat.{ℕ}
 use native.Mathlib.Omega.{arith}
 use lib.ListN.{length, length-map}
-use Rattle.laws.proofs.Tables.{length-tab}
 use Rattle.theory.specs.Table.{Table}
 use Rattle.theory.specs.Expansion.{freed, expand}
 use Rattle.theory.proofs.Later.{expand-cases}
-use Rattle.table.specs.Layout.{Mem, setsIn, rulesIn, view}
+use Rattle.table.specs.Layout.{Mem, view}
 use Rattle.table.specs.Laid.{Formed}
 use Rattle.expansion.specs.Expansion.{Expandable, Expands}
 use Rattle.expansion.proofs.Promises.{expand-formed, expand-keeps}
+use Rattle.table.proofs.Becoming.{becomes-none, sets-seen, rules-seen}
 use Rattle.recogniser.specs.Reading.{Kept}
-
-sets-seen : (m : Mem) → length (view m .sets) ≡ setsIn (m .rules)
-sets-seen m = length-tab (setsIn (m .rules)) _
-
-rules-seen : (m : Mem) → length (view m .rules) ≡ rulesIn (m .rules)
-rules-seen m = length-tab (rulesIn (m .rules)) _
 
 same-rules : (t : Table) (u : ℕ) → length (expand t u .table .rules) ≡ length (t .rules)
 same-rules t u = expand-cases (λ e. length (e .table .rules) ≡ length (t .rules)) t u (λ a. refl) (λ a b. length-map (t .rules) freed) (λ a b. length-map (t .rules) freed)
@@ -26,7 +20,7 @@ same-rules t u = expand-cases (λ e. length (e .table .rules) ≡ length (t .rul
 pub kept-none : {m : Mem} → Formed m → Kept m m
 kept-none f = record {
   formed = f;
-  becomes = record { laid = f .laid; seen = refl; rules = λ k l. refl; cells = λ k l. refl; words = λ k l. refl };
+  becomes = becomes-none (f .laid);
   sets = refl;
   rules = refl;
 }

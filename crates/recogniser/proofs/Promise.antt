@@ -1,6 +1,5 @@
 -- What Parse promises follows from its checks and from the steps that it did. Assumes nothing.
 use mathlib.Core.Path.{_≡_, refl, sym, _∙_, ap, subst}
-use mathlib.Core.Bool.{Bool, false}
 use mathlib.Core.Logic.{inl, inr, ⊎-elim}
 use mathlib.Core.List.{List, _++_}
 use Prim.Native.Nat.{ℕ, _+_, _-_, _≤_, _<_}
@@ -25,6 +24,7 @@ use Rattle.table.specs.Layout.{Mem, view}
 use Rattle.table.specs.Laid.{Formed}
 use Rattle.table.specs.Becomes.{Becomes}
 use Rattle.links.specs.Held.{Cleared}
+use Rattle.laws.proofs.Tests.{fails}
 use Rattle.recogniser.specs.declared.Verdict.{Verdict}
 use Rattle.recogniser.specs.declared.refusals.Checked.the-variants.{Passed, Refused}
 use Rattle.recogniser.specs.Parse.{numbersFor, lentParse, Past, Parses}
@@ -32,9 +32,6 @@ use Rattle.recogniser.specs.Reading.{Readable, Reads}
 use Rattle.recogniser.specs.Check.{Refusal, Checks}
 use Rattle.recogniser.specs.Check.Refusal.{bad-table, large-pool, short-buffer, long-line, bad-token}
 use Rattle.recogniser.proofs.Kept.{kept-none}
-
-fails : {b : Bool} → b ≡ false → T b → ⊥
-fails e t = subst T e t
 
 between : {a : ℕ} → Past a → 2 < a → a < 20 → ⊥
 between q h k = ⊎-elim (λ e. omega arith) (⊎-elim (λ e. omega arith) (⊎-elim (λ e. omega arith) (λ e. omega arith))) q

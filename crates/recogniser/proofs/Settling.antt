@@ -3,22 +3,20 @@
 use mathlib.Core.Path.{_≡_, refl, sym, _∙_, ap, subst}
 use mathlib.Core.Bool.{Bool, true, false, not}
 use mathlib.Core.Logic.{_≢_}
-use mathlib.Core.List.{List, []}
+use mathlib.Core.List.{List}
 use Prim.Native.Nat.{ℕ, _≤_, _<_}
 use native.Mathlib.Omega.{arith}
 use borrow.Author.Tests.{not-true, not-false}
 use lib.ListN.{length}
-use Rattle.theory.specs.Table.{Table, Reach}
-use Rattle.theory.specs.Table.Reach.{at-start}
+use Rattle.theory.specs.Table.{Table}
 use Rattle.theory.specs.Parse.{Link, outcome}
 use Rattle.theory.specs.Steps.{Saturated, Lowest, Steps}
 use Rattle.theory.specs.Steps.Linked.{given}
 use Rattle.theory.specs.Steps.Steps.{no-links, no-sets, expands}
-use Rattle.theory.proofs.Exact.{NodeIn, in-nodesAt}
-use Rattle.theory.proofs.Exact.NodeIn.{root-in, source-in}
+use Rattle.theory.proofs.Exact.{in-nodesAt}
 use Rattle.theory.proofs.Later.{Later}
 use Rattle.theory.proofs.Saturation.{saturation}
-use Rattle.theory.proofs.Grounded.{Grounded, saturated-grounded, later-grounded, lowest-reach}
+use Rattle.theory.proofs.Grounded.{node-reach, saturated-grounded, later-grounded, lowest-reach}
 use Rattle.table.specs.Layout.{Mem, view}
 use Rattle.links.specs.declared.Here.{Here}
 use Rattle.links.specs.Records.{Graph, linksOf}
@@ -31,10 +29,6 @@ use Rattle.expansion.proofs.Promises.{expand-keeps, expand-expanded}
 use Rattle.recogniser.specs.Reading.{Stands, Kept, Leads, Settles, Refuses}
 use Rattle.recogniser.proofs.Kept.{kept-none, kept-trans, kept-expanded}
 use Rattle.recogniser.proofs.Turns.{turnsLeft, fewer-turns}
-
-node-reach : {t : Table} {p i u : ℕ} {ls : List Link} → Grounded t p ls → NodeIn ls i u → Reach t u
-node-reach 𝓖 root-in = at-start
-node-reach 𝓖 (source-in n) = 𝓖 .above _ n
 
 -- what the search for an unexpanded set found
 pub waiting-at : {t : Table} {p u : ℕ} {ls : List Link} {f : Found} → Waiting t p ls f → f ≡ At u → Lowest t p ls u

@@ -1,25 +1,24 @@
 -- The turns at a position end: the sets of its nodes that are expanded stay so, and each turn but the last adds one. Assumes nothing.
-use mathlib.Core.Path.{_≡_, refl, sym, _∙_, ap, subst}
+use mathlib.Core.Path.{_≡_, sym, _∙_, ap, subst}
 use mathlib.Core.Bool.{Bool, true, false}
 use mathlib.Core.Logic.{⊎-elim}
 use mathlib.Core.List.{List, [], map, List·Memᴰ as In, List·Memᴰ·not-nil, List·Memᴰ·cases-cons}
-use Prim.Native.Nat.{ℕ, zero, suc, _-_, _≤_, _<_, zero-le}
-use native.Mathlib.Decide.{decLt}
+use Prim.Native.Nat.{ℕ, suc, _-_, _≤_, _<_, zero-le}
 use native.Mathlib.Omega.{arith}
 use lib.Dec.{eqb}
-use lib.ListN.{length, List·getD-eq-default}
+use lib.ListN.{length}
 use Rattle.laws.specs.Choice.{when}
 use Rattle.laws.specs.Lists.{consIf, keep, upFrom, Distinct}
 use Rattle.laws.specs.Lists.Distinct.{none, one-more}
-use Rattle.laws.proofs.Lists.{in-keep, in-up, distinct-add}
+use Rattle.laws.proofs.Lists.{in-keep, in-up, distinct-add, up-length}
 use Rattle.laws.proofs.Tests.{eqb-iff}
-use Rattle.theory.specs.Table.{UNEXPANDED, EXPANDED, Table, freeSet, setAt, Reach}
+use Rattle.theory.specs.Table.{UNEXPANDED, EXPANDED, Table, setAt, Reach}
 use Rattle.theory.specs.Parse.{Link, nodesAt}
 use Rattle.theory.proofs.Counted.{distinct-keep}
 use Rattle.theory.proofs.Counting.{no-longer}
-use Rattle.theory.proofs.Exact.{NodeIn, in-nodesAt}
-use Rattle.theory.proofs.Exact.NodeIn.{root-in, source-in}
+use Rattle.theory.proofs.Exact.{in-nodesAt, node-more}
 use Rattle.theory.proofs.Later.{Later}
+use Rattle.theory.proofs.Steps.{state-inside}
 
 isExpanded : Table → ℕ → Bool
 isExpanded t s = eqb (setAt (t .sets) s .state) EXPANDED
@@ -51,25 +50,11 @@ module _ (t : Table) (ls : List Link) (p : ℕ) where
   once = distinct-keep (isExpanded t) (distinct-add eqb eqb-iff (consIf (eqb p 0) 0 []) (map (λ l. l .s) (keep (λ l. eqb (l .i) p) ls)) (root-once (eqb p 0)))
 
   few : length (expandedAt t ls p) ≤ length (t .sets)
-  few = let h = no-longer once (upFrom 0 (length (t .sets))) (λ s i. in-up 0 (length (t .sets)) .1 (zero-le, (let k = inside s (in-expanded s i .1) in omega arith))) in
+  few = let h = no-longer once (upFrom 0 (length (t .sets))) (λ s i. in-up 0 (length (t .sets)) .1 (zero-le, (let k = state-inside (t .sets) s 1 (in-expanded s i .1) in omega arith))) in
       omega (arith, up-length 0 (length (t .sets)))
-    where
-      inside : (s : ℕ) → setAt (t .sets) s .state ≡ EXPANDED → s < length (t .sets)
-      inside s e = elim (decLt s (length (t .sets))) [
-        | yes h ↦ h
-        | no h ↦ absurd (let z = ap (λ p. p .state) (List·getD-eq-default (t .sets) freeSet {n = s} (omega arith)) in omega arith)
-      ]
-
-      up-length : (i n : ℕ) → length (upFrom i n) ≡ n
-      up-length i zero = refl
-      up-length i (suc n) = ap suc (up-length (suc i) n)
 
 nodes-grow : (a b : List Link) (p : ℕ) → ((l : Link) → In l a → In l b) → (u : ℕ) → In u (nodesAt a p) → In u (nodesAt b p)
-nodes-grow a b p f u i = in-nodesAt b p .1 (go (in-nodesAt a p .0 i))
-  where
-    go : {i u : ℕ} → NodeIn a i u → NodeIn b i u
-    go root-in = root-in
-    go (source-in m) = source-in (f _ m)
+nodes-grow a b p f u i = in-nodesAt b p .1 (node-more f (in-nodesAt a p .0 i))
 
 -- a turn that expands the set u of a node here
 module _ (t t′ : Table) (a b : List Link) (p u : ℕ) (reached : (s : ℕ) → In s (nodesAt a p) → Reach t s) (𝓛 : Later t t′)

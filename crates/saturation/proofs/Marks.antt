@@ -1,9 +1,9 @@
 -- The marks of the sets at this position: the accept mark, and the lowest unexpanded set. Assumes nothing.
 use mathlib.Core.Bool.{Bool, true, false}
-use mathlib.Core.Path.{_≡_, refl, sym, _∙_, ap, subst}
+use mathlib.Core.Path.{_≡_, sym, _∙_, ap, subst}
 use mathlib.Core.Logic.{_≢_, _↔_}
 use mathlib.Core.List.{List, List·Memᴰ as In}
-use Prim.Native.Nat.{ℕ, zero, suc, _+_, _*_, _≤_, _<_}
+use Prim.Native.Nat.{ℕ, _+_, _*_, _≤_, _<_}
 use native.Mathlib.Decide.{ℕ-discrete, decLt}
 use native.Mathlib.Omega.{arith}
 use lib.Dec.{T}
@@ -14,7 +14,7 @@ use Rattle.theory.specs.Table.{UNEXPANDED, SetPlace, setAt}
 use Rattle.theory.specs.Parse.{nodesAt}
 use Rattle.theory.specs.Steps.{Lowest}
 use Rattle.table.specs.Layout.{Mem, setsIn, rulesIn, stateOf, view}
-use Rattle.table.proofs.Read.{set-read}
+use Rattle.table.proofs.Read.{set-read, state-unexpanded}
 use Rattle.links.specs.declared.Here.{Here}
 use Rattle.links.specs.Records.{inSet, Graph, linksOf}
 use Rattle.links.specs.Held.{Held}
@@ -23,11 +23,6 @@ use Rattle.saturation.proofs.Nodes.{here-in, here-of}
 
 -- ---- what a mark says
 
-state-one : (k : ℕ) → stateOf k ≡ UNEXPANDED → k ≡ 1
-state-one zero e = absurd (omega arith)
-state-one (suc zero) e = refl
-state-one (suc (suc k)) e = absurd (omega arith)
-
 module _ (m : Mem) (u : ℕ) (l : u < setsIn (m .rules)) where
   first-cell : getD (m .sets .cells) (u * 128 + 0) 0 ≡ getD (m .sets .cells) (u * 128) 0
   first-cell = ap (λ i. getD (m .sets .cells) i 0) (omega arith)
@@ -35,7 +30,7 @@ module _ (m : Mem) (u : ℕ) (l : u < setsIn (m .rules)) where
   unexpanded-iff : (setAt (view m .sets) u .state ≡ UNEXPANDED) ↔ (getD (m .sets .cells) (u * 128) 0 ≡ 1)
   unexpanded-iff =
       let r = set-read (setsIn (m .rules)) (rulesIn (m .rules)) (m .sets) u l in (
-        λ e. sym first-cell ∙ state-one _ (sym (ap (λ (p : SetPlace). p .state) r) ∙ e),
+        λ e. sym first-cell ∙ state-unexpanded _ (sym (ap (λ (p : SetPlace). p .state) r) ∙ e),
         λ e. ap (λ (p : SetPlace). p .state) r ∙ ap stateOf (first-cell ∙ e),
       )
 

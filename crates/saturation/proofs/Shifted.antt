@@ -1,23 +1,23 @@
 -- What a shift leaves. Assumes nothing.
-use mathlib.Core.Path.{_≡_, refl, sym, _∙_, ap, ap₂, subst}
+use mathlib.Core.Path.{_≡_, sym, _∙_, ap, ap₂, subst}
 use mathlib.Core.Logic.{inl, inr, ⊎-elim}
 use mathlib.Core.List.{List, _∷_, List·Memᴰ as In, List·Memᴰ·cases-cons}
 use Prim.Native.Nat.{ℕ, suc, _+_, _≤_, _<_}
-use native.Mathlib.Decide.{ℕ-discrete, decLt}
+use native.Mathlib.Decide.{decLt}
 use native.Mathlib.Numerals.{add-one}
 use native.Mathlib.Omega.{arith}
 use lib.ListN.{length}
 use Rattle.laws.specs.Lists.Distinct.{one-more}
-use Rattle.theory.specs.Table.{Table, target, automaton}
+use Rattle.theory.specs.Table.{automaton}
 use Rattle.theory.specs.Parse.{Link, link, nodesAt}
 use Rattle.theory.specs.Steps.{Shifted}
 use Rattle.theory.proofs.Counting.{no-longer}
 use Rattle.table.specs.Layout.{Mem, setsIn, cell, view}
 use Rattle.table.specs.Laid.{Formed}
 use Rattle.links.specs.declared.Here.{Here}
-use Rattle.links.specs.Records.{source, position, inSet, Graph, linksOf}
+use Rattle.links.specs.Records.{position, inSet, Graph, linksOf}
 use Rattle.links.specs.Held.{Held}
-use Rattle.links.proofs.Listed.{in-links, count, distinct, in-grown}
+use Rattle.links.proofs.Listed.{count, distinct, in-grown}
 use Rattle.saturation.specs.Wanted.{ToSpan}
 use Rattle.saturation.specs.Moves.{Does}
 use Rattle.saturation.specs.Ends.{next, Shifts}
@@ -112,27 +112,3 @@ module _ {m : Mem} (F : Formed m) {h : Here} {x y : Graph} (H : Held h x) (few :
         (λ b i. ⊎-elim (λ q. S .all b .1 (inr (subst New (sym q) (new-of l w)))) (held-of S b) (List·Memᴰ·cases-cons i)) in
         omega arith) (D .full o);
   }
-
--- ---- no link more: no node here has a transition on the token
-
-pub stuck : (t : Table) {h : Here} {x : Graph} → Held h x → (a : ℕ) (n : List Link) → Shifted t (h .position) a (linksOf x) n → length n ≡ x .links
-    → (u : ℕ) → In u (nodesAt (linksOf x) (h .position)) → target (t .sets) u a ≡ 0
-stuck t {h} {x} H a n S e u i = elim (ℕ-discrete (target (t .sets) u a) 0) [
-  | yes z ↦ z
-  | no z ↦ absurd (
-      let l = link (suc (h .position)) (target (t .sets) u a) (h .position) u in
-      let c : length (linksOf x) ≡ x .links = count (x .buf) (x .links) in
-      let k : length (l ∷ linksOf x) ≤ length n = no-longer (one-more (λ j. late l j refl) (distinct x (H .core))) n
-      (λ b j. ⊎-elim (λ q. S .all b .1 (inr (u, target (t .sets) u a, i, (refl, z), q))) (λ j. S .all b .1 (inl j)) (List·Memᴰ·cases-cons j)) in
-      omega arith)
-]
-  where
-    late : (l : Link) → In l (linksOf x) → l .i ≡ suc (h .position) → ⊥
-    late l j q =
-        let (k, p, r, f) = in-links (x .buf) (x .links) .0 j in
-        let g = H .core .source-in k p r in
-        let b : position (x .buf) (source (x .buf) k) ≡ suc (h .position) = sym (ap (λ l. l .i) f) ∙ q in
-        elim (decLt (source (x .buf) k) (h .start)) [
-          | yes d ↦ (let v = H .core .before (source (x .buf) k) g d in omega arith)
-          | no d ↦ (let v = H .core .here (source (x .buf) k) g (omega arith) in omega arith)
-        ]

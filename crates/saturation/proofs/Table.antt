@@ -1,45 +1,22 @@
 -- What the numbers of a table in form say, against its view. Assumes nothing.
-use mathlib.Core.Path.{_≡_, refl, sym, ap, subst, _∙_}
+use mathlib.Core.Path.{_≡_, sym, ap, subst, _∙_}
 use mathlib.Core.Logic.{_≢_}
 use mathlib.Core.List.{List·Memᴰ as In}
 use Prim.Native.Nat.{ℕ, _+_, _*_, _≤_, _<_}
-use native.Mathlib.Decide.{ℕ-discrete, decLt}
+use native.Mathlib.Decide.{decLt}
 use native.Mathlib.Omega.{arith}
-use lib.ListN.{length, List·getD-eq-default}
-use Rattle.laws.proofs.Tables.{length-tab}
-use Rattle.theory.specs.Table.{SetPlace, freeSet, ruleAt, setAt, automaton}
-use Rattle.theory.specs.Form.{InUse, Named, SetInForm}
-use Rattle.table.specs.Layout.{Mem, setsIn, rulesIn, ruleNumber, cell, bitOf, transition, ruleSeen, setSeen, view}
+use lib.ListN.{length}
+use Rattle.theory.specs.Table.{SetPlace, ruleAt, setAt, automaton}
+use Rattle.theory.specs.Form.{Named}
+use Rattle.table.specs.Layout.{Mem, setsIn, rulesIn, ruleNumber, cell, bitOf, ruleSeen, view}
 use Rattle.table.specs.Laid.{Formed}
-use Rattle.table.proofs.Once.{in-transitions}
 use Rattle.table.proofs.Read.{rule-read, set-read, right-length, reductions-read, target-read}
+use Rattle.table.proofs.Formed.{set-formed, target-inside}
 use Rattle.saturation.specs.Wanted.{Targets}
 
 module _ (m : Mem) (F : Formed m) where
-  sets-length : length (view m .sets) ≡ setsIn (m .rules)
-  sets-length = length-tab (setsIn (m .rules)) (setSeen (rulesIn (m .rules)) (m .sets))
-
-  set-form : (u : ℕ) → u < setsIn (m .rules) → SetInForm (view m .rules) (view m .sets) (setSeen (rulesIn (m .rules)) (m .sets) u)
-  set-form u l =
-      subst (SetInForm (view m .rules) (view m .sets)) (set-read (setsIn (m .rules)) (rulesIn (m .rules)) (m .sets) u l)
-      (F .form .sets u (omega (arith, sets-length)))
-
-  -- a set in use is one of the pool's
-  used-low : (s : ℕ) → InUse (view m .sets) s → s < setsIn (m .rules)
-  used-low s d = elim (decLt s (setsIn (m .rules))) [
-    | yes l ↦ l
-    | no l ↦ absurd (d (ap (λ (p : SetPlace). p .state) (List·getD-eq-default (view m .sets) freeSet (omega (arith, sets-length)))))
-  ]
-
-  targets : Targets (setsIn (m .rules)) (m .sets .cells)
-  targets u x l p q = elim (ℕ-discrete (cell (m .sets) u x) 0) [
-    | yes z ↦ omega (arith, F .laid .sized .some-sets)
-    | no z ↦ used-low (cell (m .sets) u x)
-        (set-form u l .targets (transition x (cell (m .sets) u x)) (in-transitions (m .sets) u x (cell (m .sets) u x) .1 ((p, q), (refl, z))) .0)
-  ]
-
   pub cells-in : {n : ℕ} → n ≡ setsIn (m .rules) → (n * 128 ≤ length (m .sets .cells)) × Targets n (m .sets .cells)
-  cells-in e = (omega (arith, F .laid .sized .cells), subst (λ n. Targets n (m .sets .cells)) (sym e) targets)
+  cells-in e = (omega (arith, F .laid .sized .cells), subst (λ n. Targets n (m .sets .cells)) (sym e) (target-inside F))
 
   -- a transition of the automaton is a number that is not zero
   module _ (u x s : ℕ) (l : u < setsIn (m .rules)) (p : 1 ≤ x) (q : x < 128) where
@@ -75,7 +52,7 @@ module _ (m : Mem) (F : Formed m) where
     -- the rule of a reduction
     named : In r (setAt (view m .sets) u .reductions) → Named (view m .rules) r
     named i =
-        set-form u l .reductions r (subst (λ (p : SetPlace). In r (p .reductions)) (set-read (setsIn (m .rules)) (rulesIn (m .rules)) (m .sets) u l) i)
+        set-formed F u l .reductions r (subst (λ (p : SetPlace). In r (p .reductions)) (set-read (setsIn (m .rules)) (rulesIn (m .rules)) (m .sets) u l) i)
 
   module _ (r : ℕ) (h : r < rulesIn (m .rules)) where
     pub left-is : ruleAt (view m .rules) r .left ≡ ruleNumber (m .rules) r 1

@@ -12,7 +12,7 @@
 // is one place that answers NO-LINKS, in Parse, and none here.
 ghost use mathlib.Core.Path.{_≡_};
 ghost use Prim.Native.Nat.{_+_, _*_, _<_, _≤_};
-ghost use lib.ListN.{length, getD};
+ghost use lib.ListN.{length};
 ghost use Rattle.laws.specs.Choice.{Tells};
 ghost use Rattle.table.specs.Layout.{mem, setsIn, view};
 ghost use Rattle.table.specs.Laid.{Formed};

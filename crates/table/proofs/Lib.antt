@@ -3,6 +3,8 @@ pub mod Once
 pub mod Read
 pub mod RuleNumbers
 pub mod Rows
+pub mod Starts
 pub mod SameKernel
+pub mod Becoming
 pub mod Formed
 pub mod OneOutcome

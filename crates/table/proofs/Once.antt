@@ -10,7 +10,7 @@ use lib.Dec.{T, eqb}
 use lib.ListN.{length, getD}
 use Rattle.laws.specs.Loops.{tab}
 use Rattle.laws.proofs.Tables.{length-tab, getD-tab}
-use Rattle.laws.proofs.Tests.{eqb-iff}
+use Rattle.laws.proofs.Tests.{eqb-iff, not-iff}
 use Rattle.laws.specs.Lists.{keep, upFrom}
 use Rattle.laws.proofs.Lists.{in-keep, in-map, in-up}
 use Rattle.theory.specs.Table.{item, freeRule, freeSet, allItems}
@@ -19,7 +19,7 @@ use Rattle.kernels.proofs.Bit.{bit-lt, word-ext}
 use Rattle.kernels.proofs.Kernel.{has-lt, has-at}
 use Rattle.table.specs.Layout.{Mem, Sets, setsIn, rulesIn, ruleNumber, cell, bitOf, stateOf, transition, ruleSeen, kernelSeen, transitionsSeen, reductionsSeen, setSeen, view}
 use Rattle.table.specs.Laid.{LaidRule, LaidSet, Laid}
-use Rattle.laws.proofs.Chosen.{not-iff, keep-same}
+use Rattle.laws.proofs.Chosen.{keep-same}
 use Rattle.theory.proofs.Items.{in-all}
 
 -- ---- a rule's ten numbers

@@ -2,7 +2,7 @@
 use mathlib.Core.List.{List, List·Memᴰ as In}
 use mathlib.Core.Path.{_≡_, refl, sym, ap, _∙_}
 use mathlib.Core.Logic.{_↔_, _⊎_, inl, inr}
-use Prim.Native.Nat.{ℕ, _+_, _*_, _≤_, _<_, zero-le}
+use Prim.Native.Nat.{ℕ, zero, suc, _+_, _*_, _≤_, _<_, zero-le}
 use native.Mathlib.Decide.{ℕ-discrete}
 use native.Mathlib.Omega.{arith}
 use lib.Dec.{T, eqb}
@@ -11,10 +11,14 @@ use Rattle.laws.proofs.Tables.{length-tab, getD-tab}
 use Rattle.laws.proofs.Tests.{eqb-iff}
 use Rattle.laws.specs.Lists.{firstIn, upFrom}
 use Rattle.laws.proofs.Lists.{in-keep, first-in, in-up}
-use Rattle.theory.specs.Table.{Transition, item, noTransition, freeRule, freeSet, ruleAt, setAt, target, allItems}
-use Rattle.table.specs.Layout.{Sets, rulesIn, ruleNumber, cell, bitOf, transition, ruleSeen, kernelSeen, transitionsSeen, reductionsSeen, setSeen, viewRules, viewSets}
+use Rattle.kernels.specs.Kernel.{has, holds}
+use Rattle.theory.specs.Table.{FREE, UNEXPANDED, Transition, item, noTransition, freeRule, freeSet, ruleAt, setAt, target, allItems}
+use Rattle.table.specs.Layout.{Sets, rulesIn, ruleNumber, cell, bitOf, stateOf, transition, ruleSeen, kernelSeen, transitionsSeen, reductionsSeen, setSeen, viewRules, viewSets}
 use Rattle.theory.proofs.Items.{in-all}
 use Rattle.table.proofs.Once.{in-transitions}
+
+pub view-length : (rs : List ℕ) → length (viewRules rs) ≡ rulesIn rs
+view-length rs = length-tab (rulesIn rs) (ruleSeen rs)
 
 pub rule-read : (rs : List ℕ) (r : ℕ) → r < rulesIn rs → ruleAt (viewRules rs) r ≡ ruleSeen rs r
 rule-read rs r l = getD-tab (rulesIn rs) r (ruleSeen rs) freeRule l
@@ -30,11 +34,11 @@ pub right-length : (rs : List ℕ) (r : ℕ) → length (ruleSeen rs r .right) �
 unfolding ruleSeen
 right-length rs r = length-tab (ruleNumber rs r 2) (λ d. ruleNumber rs r (3 + d))
 
-pub kernel-read : (n : ℕ) (x : Sets) (s r d : ℕ) → In (item r d) (kernelSeen n (x .words) (s * 18)) ↔ (((r < n) × (d < 8)) × (bitOf x s (r * 8 + d) ≡ 1))
+pub in-seen : (n : ℕ) (ws : List ℕ) (at r d : ℕ) → In (item r d) (kernelSeen n ws at) ↔ (((r < n) × (d < 8)) × (has ws at (r * 8 + d) ≡ 1))
 unfolding kernelSeen
-kernel-read n x s r d = (
-  λ m. let (a, b) = in-keep (λ i. eqb (bitOf x s (i .rule * 8 + i .dot)) 1) (allItems n) .0 m in (in-all n .0 a, eqb-iff _ 1 .0 b),
-  λ (p, e). in-keep (λ i. eqb (bitOf x s (i .rule * 8 + i .dot)) 1) (allItems n) .1 (in-all n .1 p, eqb-iff _ 1 .1 e),
+in-seen n ws at r d = (
+  λ m. let (a, b) = in-keep (λ i. holds ws at (i .rule * 8 + i .dot)) (allItems n) .0 m in (in-all n .0 a, eqb-iff _ 1 .0 b),
+  λ (p, e). in-keep (λ i. holds ws at (i .rule * 8 + i .dot)) (allItems n) .1 (in-all n .1 p, eqb-iff _ 1 .1 e),
 )
 
 pub reductions-read : (n : ℕ) (x : Sets) (s r : ℕ) → In r (reductionsSeen n x s) ↔ ((r < n) × (bitOf x s (1024 + r) ≡ 1))
@@ -43,6 +47,17 @@ reductions-read n x s r = (
   λ m. let (a, b) = in-keep (λ r. eqb (bitOf x s (1024 + r)) 1) (upFrom 0 n) .0 m in let (p, q) = in-up 0 n .0 a in (omega arith, eqb-iff _ 1 .0 b),
   λ (p, e). in-keep (λ r. eqb (bitOf x s (1024 + r)) 1) (upFrom 0 n) .1 (in-up 0 n .1 (zero-le, omega arith), eqb-iff _ 1 .1 e),
 )
+
+-- the mark behind a state
+pub state-free : (m : ℕ) → stateOf m ≡ FREE → m ≡ 0
+state-free zero e = refl
+state-free (suc zero) e = absurd (omega arith)
+state-free (suc (suc m)) e = absurd (omega arith)
+
+pub state-unexpanded : (m : ℕ) → stateOf m ≡ UNEXPANDED → m ≡ 1
+state-unexpanded zero e = absurd (omega arith)
+state-unexpanded (suc zero) e = refl
+state-unexpanded (suc (suc m)) e = absurd (omega arith)
 
 -- a target, as Parse looks it up
 pub target-read : (S n : ℕ) (x : Sets) (s k : ℕ) → s < S → 1 ≤ k → k < 128 → target (viewSets S n x) s k ≡ cell x s k

@@ -9,14 +9,16 @@ use native.Mathlib.Decide.{ℕ-discrete}
 use native.Mathlib.Omega.{arith}
 use lib.Dec.{eqb}
 use lib.ListN.{length, getD}
+use lib.Pow.{pow-pos}
 use Rattle.laws.specs.Loops.{upTo}
 use Rattle.laws.specs.Lists.{keep, upFrom}
 use Rattle.laws.proofs.Lists.{in-keep, in-up}
 use Rattle.theory.specs.Table.{allItems}
 use Rattle.kernels.specs.Bit.{bit}
 use Rattle.kernels.specs.Kernel.{has, holds}
-use Rattle.table.specs.Layout.{Sets, cell, bitOf, stateOf, transition, kernelSeen, transitionsSeen, reductionsSeen, setSeen}
-use Rattle.table.specs.Laid.{LaidSet}
+use Rattle.kernels.proofs.Bit.{bit-of-zero}
+use Rattle.table.specs.Layout.{Sets, setsIn, cell, bitOf, stateOf, transition, kernelSeen, transitionsSeen, reductionsSeen, setSeen}
+use Rattle.table.specs.Laid.{Sized, HasRow, LaidSet}
 use Rattle.laws.proofs.Chosen.{keep-cong, keep-none, map-cong}
 use Rattle.theory.proofs.Items.{in-all}
 
@@ -71,9 +73,6 @@ row-refl = record { cell = λ k l. refl; word = λ k l. refl }
 pub row-trans : {s : ℕ} {a b c : Sets} → SameRow s a b → SameRow s b c → SameRow s a c
 row-trans p q = record { cell = λ k l. p .cell k l ∙ q .cell k l; word = λ k l. p .word k l ∙ q .word k l }
 
-pub row-sym : {s : ℕ} {a b : Sets} → SameRow s a b → SameRow s b a
-row-sym p = record { cell = λ k l. sym (p .cell k l); word = λ k l. sym (p .word k l) }
-
 pub row-bit : {s : ℕ} {a b : Sets} → SameRow s a b → (i : ℕ) → i < 1152 → bitOf a s i ≡ bitOf b s i
 unfolding has
 row-bit p i l = ap (λ w. bit w (i % 64)) (p .word (i / 64) (omega arith))
@@ -99,12 +98,71 @@ row-laid n s a b p l =
       unused = λ z i h. row-bit p i (omega arith) ∙ l .unused (sym m ∙ z) i h;
     }
 
+-- ---- a row of which only the mark, 0 or 1, is not zero: a free set, or an unexpanded one with an empty kernel
+
+pub record BareRow (s : ℕ) (x : Sets) : Type 0 where
+  pub cell : (k : ℕ) → 1 ≤ k → k < 128 → cell x s k ≡ 0
+  pub word : (k : ℕ) → k < 18 → getD (x .words) (s * 18 + k) 0 ≡ 0
+
+module _ {s : ℕ} {x : Sets} (b : BareRow s x) where
+  no-bit : (i : ℕ) → i < 1152 → bitOf x s i ≡ 0
+  unfolding has
+  no-bit i l = ap (λ w. bit w (i % 64)) (b .word (i / 64) (omega arith)) ∙ bit-of-zero (i % 64)
+
+  pub bare-laid : (n : ℕ) → cell x s 0 < 2 → LaidSet n x s
+  bare-laid n l = record {
+    mark = omega arith;
+    words = λ k h. subst (λ v. v < 2 ^ 64) (sym (b .word k h)) (pow-pos 64);
+    items = λ i g h. no-bit i (omega arith);
+    reductions = λ r g h. no-bit (1024 + r) (omega arith);
+    bare = λ z k g h. b .cell k g h;
+    idle = λ z r h. no-bit (1024 + r) (omega arith);
+    unused = λ z i h. no-bit i (omega arith);
+  }
+
+  pub bare-seen : (n mark : ℕ) → n ≤ 128 → cell x s 0 ≡ mark → setSeen n x s ≡ record { state = stateOf mark; kernel = []; transitions = []; reductions = []; accepts = eqb mark 3 }
+  bare-seen n mark few m =
+      let k : kernelSeen n (x .words) (s * 18) ≡ [] = kernel-none n (x .words) (s * 18) (λ i l. no-bit i (omega arith)) in
+      let t : transitionsSeen x s ≡ [] = transitions-none x s (b .cell) in
+      let r : reductionsSeen n x s ≡ [] = reductions-none n x s (λ r l. no-bit (1024 + r) (omega arith)) in
+      λ z. record { state = stateOf (m z); kernel = k z; transitions = t z; reductions = r z; accepts = eqb (m z) 3 }
+
 -- ---- a loop in which turn s writes row s only
 
 -- the lengths are the same
 pub record SameSize (a b : Sets) : Type 0 where
   pub cells : length (a .cells) ≡ length (b .cells)
   pub words : length (a .words) ≡ length (b .words)
+
+-- slices as long as before have the rows they had, and are long enough still
+pub row-still : {s : ℕ} {a b : Sets} → SameSize a b → HasRow s b → HasRow s a
+row-still {s} e h = record { cells = subst (λ k. s * 128 + 128 ≤ k) (sym (e .cells)) (h .cells); words = subst (λ k. s * 18 + 18 ≤ k) (sym (e .words)) (h .words) }
+
+pub sized-still : {rs : List ℕ} {x y : Sets} → SameSize y x → Sized rs x → Sized rs y
+sized-still {rs} e z = record {
+  some-sets = z .some-sets;
+  few-sets = z .few-sets;
+  some-rules = z .some-rules;
+  few-rules = z .few-rules;
+  rules = z .rules;
+  cells = subst (λ n. setsIn rs * 128 ≤ n) (sym (e .cells)) (z .cells);
+  words = subst (λ n. setsIn rs * 18 ≤ n) (sym (e .words)) (z .words);
+}
+
+pub row-in : {rs : List ℕ} {x : Sets} → Sized rs x → (s : ℕ) → s < setsIn rs → HasRow s x
+row-in z s l = let a = z .cells in let b = z .words in record { cells = omega arith; words = omega arith }
+
+-- rows that are the same from n on leave the numbers there alone
+module _ (n : ℕ) (a b : Sets) (h : (s : ℕ) → n ≤ s → SameRow s a b) where
+  pub cells-beyond : (k : ℕ) → n * 128 ≤ k → getD (a .cells) k 0 ≡ getD (b .cells) k 0
+  cells-beyond k l =
+      let e : k / 128 * 128 + k % 128 ≡ k = omega arith in
+      subst (λ j. getD (a .cells) j 0 ≡ getD (b .cells) j 0) e (h (k / 128) (omega arith) .cell (k % 128) (omega arith))
+
+  pub words-beyond : (k : ℕ) → n * 18 ≤ k → getD (a .words) k 0 ≡ getD (b .words) k 0
+  words-beyond k l =
+      let e : k / 18 * 18 + k % 18 ≡ k = omega arith in
+      subst (λ j. getD (a .words) j 0 ≡ getD (b .words) j 0) e (h (k / 18) (omega arith) .word (k % 18) (omega arith))
 
 module _ (step : ℕ → Sets → Sets)
     (sizes : (s : ℕ) (x : Sets) → SameSize (step s x) x)

@@ -1,24 +1,21 @@
 -- A rule's ten numbers: what is seen of them, the record that they are, and what is left alone where one rule is written.
 -- Assumes nothing.
-use mathlib.Core.List.{List, []}
+use mathlib.Core.List.{List}
 use mathlib.Core.Path.{_≡_, refl, sym, ap, subst, _∙_}
 use mathlib.Core.Logic.{_≢_, inl, inr}
-use Prim.Native.Nat.{ℕ, zero, suc, _+_, _-_, _*_, _≤_, _<_}
+use Prim.Native.Nat.{ℕ, suc, _+_, _-_, _*_, _≤_, _<_}
 use native.Mathlib.Decide.{ℕ-discrete, decLt}
 use native.Mathlib.Omega.{arith}
-use lib.ListN.{length, getD, set, length-set}
-use lib.Seq.{ext-getD, getD-set-same, getD-set-other}
+use lib.ListN.{length, getD, set}
 use Rattle.laws.specs.Loops.{tab}
 use Rattle.laws.proofs.Tables.{getD-tab}
 use Rattle.laws.proofs.Chosen.{tab-cong, set-tab}
-use Rattle.symbols.specs.Rule.{symbol, place, WellFormed, rightSide, ruleOf}
-use Rattle.symbols.specs.Check.{noRule}
+use Rattle.symbols.specs.Rule.{symbol, place, WellFormed, rightSide}
 use Rattle.symbols.specs.declared.rule.Rule.{Rule}
-use Rattle.symbols.proofs.Rules.{place-of}
 use Rattle.kernels.proofs.Write.{length-write, write-in, write-out}
 use Rattle.theory.specs.Table.{RulePlace, freeRule}
 use Rattle.table.specs.Layout.{Sets, setsIn, rulesIn, ruleNumber, ruleSeen, viewRules}
-use Rattle.table.specs.Write.{ruleIn, tenOf, putRule, putState}
+use Rattle.table.specs.Write.{ruleIn, tenOf, putRule}
 use Rattle.table.specs.Laid.{Sized, LaidRule, LaidRules}
 
 -- ---- the record of a rule
@@ -65,14 +62,6 @@ module _ (a b : List ℕ) (r : ℕ) (h : SameTen r a b) where
       let l = h 1 (omega arith) in
       let w : ruleSeen a r .right ≡ ruleSeen b r .right = right-cong a b r short (λ k p q. h k q) in
       λ z. rulePlace (s z) (l z) (w z)
-
-  pub ten-in : ruleIn a r ≡ ruleIn b r
-  unfolding ruleIn
-  ten-in =
-      let l = h 1 (omega arith) in
-      let n = h 2 (omega arith) in
-      let w = tab-cong 7 (λ d. symbol (ruleNumber a r (3 + d))) (λ d. symbol (ruleNumber b r (3 + d))) (λ d l. ap symbol (h (3 + d) (omega arith))) in
-      λ z. record { left = symbol (l z); len = n z; right = w z }
 
   pub ten-laid : LaidRule b r → LaidRule a r
   ten-laid l =
@@ -201,14 +190,6 @@ module _ (rs : List ℕ) (r state : ℕ) (x : Rule) where
         ∙ tab-cong (x .len) (λ d. ruleNumber (putRule rs r state x) r (3 + d)) (place x) (λ d l. put-place-is d (omega arith)) in
         λ z. rulePlace (put-state-is z) (put-left-is z) (w z)
 
-    pub put-in : length (x .right) ≡ 7 → ruleIn (putRule rs r state x) r ≡ x
-    unfolding ruleIn
-    put-in seven =
-        let w : tab 7 (λ d. symbol (ruleNumber (putRule rs r state x) r (3 + d))) ≡ x .right =
-        ext-getD (symbol 0) (tab 7 (λ d. symbol (ruleNumber (putRule rs r state x) r (3 + d)))) (x .right) (sym seven)
-        (λ d l. getD-tab 7 d (λ d. symbol (ruleNumber (putRule rs r state x) r (3 + d))) (symbol 0) (omega arith) ∙ ap symbol (put-place-is d (omega arith))) in
-        λ z. record { left = symbol (put-left-is z); len = put-len-is z; right = w z }
-
     -- a current or a withdrawn rule
     pub put-laid : 1 ≤ state → state ≤ 2 → WellFormed x → LaidRule (putRule rs r state x) r
     put-laid p q f =
@@ -244,66 +225,3 @@ module _ (rs : List ℕ) (r : ℕ) (zero-at : (k : ℕ) → k < 10 → ruleNumbe
   pub zeros-seen : ruleSeen rs r ≡ freeRule
   unfolding ruleSeen
   zeros-seen = λ z. rulePlace (zero-at 0 (omega arith) z) (zero-at 1 (omega arith) z) (tab (zero-at 2 (omega arith) z) (λ d. ruleNumber rs r (3 + d)))
-
--- the numbers of no rule
-ten-zero : (k : ℕ) → k < 10 → tenOf 0 noRule k ≡ 0
-ten-zero zero l = sym (ten-state 0 noRule refl)
-ten-zero (suc zero) l = sym (ten-left 0 noRule refl) ∙ unfold ruleOf in refl
-ten-zero (suc (suc zero)) l = sym (ten-len 0 noRule refl) ∙ unfold ruleOf in refl
-ten-zero (suc (suc (suc k))) l = sym (ten-place 0 noRule (suc (suc (suc k))) (omega arith) l) ∙ place-of 0 [] _ (omega arith)
-
-module _ (rs : List ℕ) (r : ℕ) (inside : 2 + r * 10 + 10 ≤ length rs) where
-  free-zero : (k : ℕ) → k < 10 → ruleNumber (putRule rs r 0 noRule) r k ≡ 0
-  free-zero k l = put-here rs r 0 noRule inside k l ∙ ten-zero k l
-
-  pub free-laid : LaidRule (putRule rs r 0 noRule) r
-  free-laid = zeros-laid (putRule rs r 0 noRule) r free-zero
-
-  pub free-seen : ruleSeen (putRule rs r 0 noRule) r ≡ freeRule
-  free-seen = zeros-seen (putRule rs r 0 noRule) r free-zero
-
--- ---- a rule's state written
-
-module _ (rs : List ℕ) (r v : ℕ) where
-  state-apart : (p : ℕ) → p ≢ 2 + r * 10 → getD (putState rs r v) p 0 ≡ getD rs p 0
-  state-apart p d = getD-set-other rs (2 + r * 10) p v 0 d
-
-  pub state-rewrites : Rewritten r (putState rs r v) rs
-  state-rewrites = record {
-    same-length = length-set rs (2 + r * 10) v;
-    sets = state-apart 0 (λ e. omega arith);
-    rules = state-apart 1 (λ e. omega arith);
-    others = λ j d k l. state-apart (2 + j * 10 + k) (λ e. d (omega arith));
-    beyond = λ k l. state-apart k (λ e. omega arith);
-  }
-
-  pub state-rest : (k : ℕ) → 1 ≤ k → ruleNumber (putState rs r v) r k ≡ ruleNumber rs r k
-  state-rest k l = state-apart (2 + r * 10 + k) (λ e. omega arith)
-
-  module _ (inside : 2 + r * 10 + 10 ≤ length rs) where
-    pub state-here : ruleNumber (putState rs r v) r 0 ≡ v
-    state-here =
-        let e : 2 + r * 10 ≡ 2 + r * 10 + 0 = omega arith in
-        subst (λ k. getD (putState rs r v) k 0 ≡ v) e (getD-set-same rs (2 + r * 10) v 0 (omega arith))
-
-    pub state-seen : ruleNumber rs r 2 ≤ 7 → ruleSeen (putState rs r v) r ≡ rulePlace v (ruleSeen rs r .left) (ruleSeen rs r .right)
-    unfolding ruleSeen
-    state-seen short =
-        let s = state-here in
-        let l = state-rest 1 (omega arith) in
-        let w : ruleSeen (putState rs r v) r .right ≡ ruleSeen rs r .right = right-cong (putState rs r v) rs r short (λ k p q. state-rest k p) in
-        λ z. rulePlace (s z) (l z) (w z)
-
-    -- a rule that is current or withdrawn becomes withdrawn or current
-    pub state-laid : 1 ≤ v → v ≤ 2 → ruleNumber rs r 0 ≢ 0 → LaidRule rs r → LaidRule (putState rs r v) r
-    state-laid p q d l =
-        let s = state-here in
-        let x = state-rest 1 (omega arith) in
-        let n = state-rest 2 (omega arith) in
-        record {
-          state = omega arith;
-          left = λ z. let (g, h) = l .left d in (omega arith, omega arith);
-          short = let m = l .short in omega arith;
-          beyond = λ d g h. state-rest (3 + d) (omega arith) ∙ l .beyond d (omega arith) h;
-          unused = λ z. absurd (omega arith);
-        }

@@ -20,6 +20,11 @@ pub record Sized (rs : List ℕ) (x : Sets) : Type 0 where
   pub cells : setsIn rs * 128 ≤ length (x .cells)
   pub words : setsIn rs * 18 ≤ length (x .words)
 
+-- the slices have row s
+pub record HasRow (s : ℕ) (x : Sets) : Type 0 where
+  pub cells : s * 128 + 128 ≤ length (x .cells)
+  pub words : s * 18 + 18 ≤ length (x .words)
+
 pub record LaidRule (rs : List ℕ) (r : ℕ) : Type 0 where
   pub state : ruleNumber rs r 0 ≤ 2
   pub left : ruleNumber rs r 0 ≢ 0 → (1 ≤ ruleNumber rs r 1) × (ruleNumber rs r 1 ≤ 127)

@@ -1,7 +1,7 @@
 -- A rule's ten numbers read as a record and written anew. Assumes nothing.
 use mathlib.Core.List.{List, _∷_}
 use Prim.Native.Nat.{ℕ, _+_, _*_}
-use lib.ListN.{getD, set}
+use lib.ListN.{getD}
 use Rattle.laws.specs.Loops.{tab}
 use Rattle.symbols.specs.Rule.{symbol, place}
 use Rattle.symbols.specs.declared.rule.Rule.{Rule}
@@ -19,7 +19,3 @@ tenOf state x k = getD (state ∷ x .left .0 ∷ x .len ∷ tab 7 (place x)) k 0
 -- the numbers with rule r written anew
 unfoldable pub putRule : List ℕ → ℕ → ℕ → Rule → List ℕ
 putRule rs r state x = writeWords rs (2 + r * 10) (tenOf state x) 10
-
--- the numbers with the state of rule r written anew
-abbrev pub putState : List ℕ → ℕ → ℕ → List ℕ
-putState rs r state = set rs (2 + r * 10) state

@@ -1,5 +1,5 @@
 // The slice of cells: for each set its mark, then its targets on the symbols 1 to 127.
-use super::rules::wide;
+use super::bytes::wide;
 ghost use mathlib.Core.Path.{_≡_};
 ghost use Prim.Native.Nat.{_+_, _*_, _<_, _≤_};
 ghost use lib.ListN.{length, getD};

@@ -10,17 +10,22 @@
 // 001's accept is the move on the end mark. Every stride is a fixed number: a place is a product and a sum, and no index
 // into the slices is ever stored in them. What is not in use is zero.
 //
-// Each function here is one load or one store, but for a rule as a record, which is ten. None tests a place when it runs: its
-// contract asks that the place be there, and the form test of the crate `form`, once a call, is what makes that sure. The
-// kernels' words are read and written by `kernels`, from 18 s on.
+// Each function here is one load or one store, but for a rule as a record, which is ten, zeros written in a row, and the start
+// set's kernel, one look at each rule. None tests a place when it runs: its contract asks that the place be there, and the form
+// test of the crate `form`, once a call, is what makes that sure. The kernels' words are read and written by `kernels`, from
+// 18 s on.
 //
 // specs/Layout.antt is this layout once more, as definitions, with the table that lent numbers hold (`view`); specs/Laid.antt
 // says when numbers are laid out (`Laid`) and hold a table in form (`Formed`); specs/Becomes.antt what a call promises of
 // them. proofs/ has what a floor above needs to know of rules written (RuleNumbers), of rows written (Rows), of what the
-// model reads (Read), and that no second list of numbers fits a promise (Once, OneOutcome).
-mod cells;
-mod rules;
+// model reads (Read), of the start kernel (Starts), of one change after another (Becoming), and that no second list of numbers
+// fits a promise (Once, OneOutcome).
+mod bytes; // bytes.rt: a number read as an index, numbers made zero
+mod cells; // cells.rt: marks and targets
+mod rules; // rules.rt: sizes and rules
+mod start; // start.rt: the start set's kernel
 
+pub use bytes::clear;
 pub use cells::ACCEPTING;
 pub use cells::EXPANDED;
 pub use cells::UNEXPANDED;
@@ -32,9 +37,8 @@ pub use rules::WITHDRAWN;
 pub use rules::left;
 pub use rules::len;
 pub use rules::put_rule;
-pub use rules::put_state;
-pub use rules::right;
 pub use rules::rule;
 pub use rules::rules_in;
 pub use rules::sets_in;
 pub use rules::state;
+pub use start::put_starts;

@@ -1,11 +1,12 @@
 // The slice of rules: the pools' sizes, then ten numbers for each rule number.
+use super::bytes::wide;
 use symbols::Rule;
 use symbols::Symbol;
 ghost use mathlib.Core.Path.{_≡_};
 ghost use Prim.Native.Nat.{_+_, _*_, _<_, _≤_};
 ghost use lib.ListN.{length};
 ghost use Rattle.table.specs.Layout.{setsIn, rulesIn, ruleNumber};
-ghost use Rattle.table.specs.Write.{ruleIn, tenOf, putRule, putState};
+ghost use Rattle.table.specs.Write.{ruleIn, tenOf, putRule};
 
 // "A number is current, withdrawn or free." 0 is also the mark of a set that is free.
 pub const FREE: u8 = 0;
@@ -54,14 +55,6 @@ pub fn len(rules: &[u8], r: usize) -> usize
     wide(rules[2 + r * 10 + 2])
 }
 
-// Right place d of rule r, 0 beyond its length.
-pub fn right(rules: &[u8], r: usize, d: usize) -> usize
-    requires { ⌜ (2 + r * 10 + 10 ≤ length (now rules)) × (d < 7) ⌝ }
-    ensures { λ x. ⌜ x ≡ ruleNumber (now (rules .entry)) r (3 + d) ⌝ }
-{
-    wide(rules[2 + r * 10 + (3 + d)])
-}
-
 // Rule r as a record, whatever its state.
 pub fn rule(rules: &[u8], r: usize) -> Rule
     requires { ⌜ 2 + r * 10 + 10 ≤ length (now rules) ⌝ }
@@ -108,19 +101,4 @@ fn number(state: u8, x: Rule, k: usize) -> u8
         2 => x.len,
         _ => x.at(k - 3).0,
     }
-}
-
-// Writes the state of rule r and leaves the rule there. A number becomes free by `put_rule` with zeros.
-pub fn put_state(rules: &mut [u8], r: usize, state: u8)
-    requires { ⌜ 2 + r * 10 + 10 ≤ length (now rules) ⌝ }
-    ensures { λ _. ⌜ now (rules .exit) ≡ putState (now (rules .entry)) r state ⌝ }
-{
-    rules[2 + r * 10] = state;
-}
-
-// A byte as an index or a count.
-pub fn wide(x: u8) -> usize
-    ensures { λ n. ⌜ n ≡ x ⌝ }
-{
-    x as usize
 }

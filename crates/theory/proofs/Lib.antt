@@ -34,6 +34,7 @@ pub mod Exact
 pub mod Saturation
 pub mod OneOutcome
 pub mod Grounded
+pub mod Shifting
 pub mod Steps
 pub mod Checks
 pub mod FormKept

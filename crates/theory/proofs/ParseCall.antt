@@ -12,11 +12,10 @@ use Rattle.theory.specs.Parse.{Outcome, parsing}
 use Rattle.theory.specs.Steps.{Steps}
 use Rattle.theory.specs.Calls.{allTokens, parse}
 use Rattle.theory.specs.Answers.{Fits}
-use Rattle.theory.proofs.Later.{Later, later-none}
 use Rattle.theory.proofs.Steps.{parse-steps}
 use Rattle.theory.proofs.Checks.{Parsed, parsed}
 use Rattle.theory.proofs.Checks.Parsed.{bad-table, bad-pool, long-line, bad-token, read}
-use Rattle.theory.proofs.Parsing.{Answered, parsing-answers, parsing-only, parsing-later}
+use Rattle.theory.proofs.Parsing.{Answered, parsing-answers, parsing-only}
 use Rattle.theory.proofs.Parsing.Answered.{verdict-given, no-room}
 
 -- past its checks Parse answers none of the refusals' numbers
@@ -102,13 +101,3 @@ module _ (t : Table) (𝓕 : InForm t) (pool : ℕ) (line : List ℕ) where
     λ e. subst (Steps pool t 0 [] line) (sym (past-checks c) ∙ e) (parse-steps pool t line 𝓕),
     λ s. past-checks c ∙ parsing-only pool t line 𝓕 o s,
   )
-
-  pub parse-later : Later t (parse t pool line .table)
-  parse-later = go (parsed t pool line)
-    where
-      go : {o : Outcome} → Parsed t pool line o → Later t (o .table)
-      go (bad-table f) = later-none 𝓕
-      go (bad-pool f h) = later-none 𝓕
-      go (long-line f h k) = later-none 𝓕
-      go (bad-token f h k d) = later-none 𝓕
-      go (read f h k d) = parsing-later pool t line f

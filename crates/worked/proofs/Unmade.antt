@@ -2,7 +2,7 @@
 -- done, and what it leaves is not in form, so that the next call answers 11. And no sequence of calls makes such a table. The tests
 -- are computed by the checker. Assumes nothing.
 use mathlib.Core.Path.{_≡_, refl}
-use mathlib.Core.Bool.{Bool, not}
+use mathlib.Core.Bool.{not}
 use mathlib.Core.List.{List, List·Memᴰ as In}
 use lib.Dec.{T, eqb, eqb→eq, T-not}
 use Rattle.laws.specs.Choice.{when, _and_, _or_}

@@ -1,19 +1,20 @@
 -- `expansion::try_expand` meets its contract. Assumes nothing.
 use native.Mathlib.Omega.{arith}
-use Rattle.expansion.proofs.Closed.{formed-rules, closed-words, closed-within}
+use Rattle.expansion.proofs.Closed.{closed-words, closed-within}
+use Rattle.table.proofs.Formed.{formed-rules}
 use Rattle.expansion.proofs.Tried.{has-room, tried-not, tried}
 use borrow.Author.Needs.{needs}
 use Rattle.expansion.proofs.try_expand.Statement.{statement}
 use Rattle.expansion.proofs.try_expand.Tie as tie
 
 closure-of-requires : tie.Need-closure-of-requires
-closure-of-requires c κs = (formed-rules _ (c .before .before .before .before .pre .formed), closed-words _ _ (c .before .before .before .before .pre), closed-within _ _ (c .before .before .before .before .pre))
+closure-of-requires c κs = (formed-rules (c .before .before .before .before .pre .formed), closed-words _ _ (c .before .before .before .before .pre), closed-within _ _ (c .before .before .before .before .pre))
 
 symbols-after-requires : tie.Need-symbols-after-requires
-symbols-after-requires c κs = (formed-rules _ (c .before .before .before .before .before .pre .formed), c .closure-of .ensures .within)
+symbols-after-requires c κs = (formed-rules (c .before .before .before .before .before .pre .formed), c .closure-of .ensures .within)
 
 missing-requires : tie.Need-missing-requires
-missing-requires c κs = ((formed-rules _ (c .before .before .before .before .before .before .before .pre .formed), c .before .before .closure-of .ensures .within, c .before .before .before .before .before .before .before .pre .formed .laid .sized .words), c .before .symbols-after .ensures)
+missing-requires c κs = ((formed-rules (c .before .before .before .before .before .before .before .pre .formed), c .before .before .closure-of .ensures .within, c .before .before .before .before .before .before .before .pre .formed .laid .sized .words), c .before .symbols-after .ensures)
 
 sets-in-requires : tie.Need-sets-in-requires
 sets-in-requires c κs = search needs

@@ -2,8 +2,9 @@
 use borrow.Author.Tests.{not-true}
 use borrow.Author.Needs.{needs}
 use Rattle.laws.proofs.Choice.{and-on, and-off, no-of, yes-of, tells-no}
+use Rattle.laws.proofs.Tests.{passes}
 use Rattle.form.specs.Formed.{formed}
-use Rattle.form.proofs.Turns.{kernels-whole, passed}
+use Rattle.form.proofs.Turns.{kernels-whole}
 use Rattle.form.proofs.Formed.{rules-short, sized, two-sizes, room, answers}
 use Rattle.form.proofs.is_formed.Statement.{statement}
 use Rattle.form.proofs.is_formed.Tie as tie
@@ -63,7 +64,7 @@ sets-fit-requires c κs = (
       (c .before .before .before .before .before .before .if1 .left),
   rules-short
       (c .before .before .before .before .before .before .before .before .before .before .before .args .rules .now)
-      (passed (yes-of (c .before .before .before .before .before .all-fit .ensures) (c .before .before .before .before .if2 .left))),
+      (passes (yes-of (c .before .before .before .before .before .all-fit .ensures) (c .before .before .before .before .if2 .left))),
 )
 
 returns-5 : tie.Need-returns-5

@@ -1,21 +1,22 @@
 -- `kernels::find` meets its contract. The invariant: the answer is that from set s on. Assumes nothing.
-use mathlib.Core.Path.{_≡_}
-use Prim.Native.Nat.{_-_}
+use mathlib.Core.Path.{_≡_, sym, _∙_}
+use Prim.Native.Nat.{_-_, _*_}
 use native.Mathlib.Omega.{arith}
 use borrow.Author.Needs.{needs}
-use Rattle.kernels.specs.Kernel.{find}
-use Rattle.kernels.proofs.FindSet.{findFrom, find-start, find-here, find-on, find-none}
+use Rattle.laws.proofs.Loops.{firstFrom, first-at, first-here, first-on, first-end}
+use Rattle.kernels.specs.Kernel.{same, find}
 use Rattle.kernels.proofs.find.Statement.{statement}
 use Rattle.kernels.proofs.find.Tie as tie
 
 abbrev Inv-loop : tie.InvT-loop
-Inv-loop words sets key at s₀ s = find words sets key at ≡ findFrom words sets key at s
+Inv-loop words sets key at s₀ s = find words sets key at ≡ firstFrom (λ t. same words (t * 18) key at) 0 sets s
 
 abbrev μ-loop : tie.MeasureT-loop
 μ-loop words sets key at s₀ s = sets - s
 
 loop-holds : tie.Need-loop-holds Inv-loop μ-loop
-loop-holds c = find-start _ _ _ _
+unfolding find
+loop-holds c = first-at _ _ _ 1
 
 mul-equal : tie.Need-mul-equal Inv-loop μ-loop
 mul-equal c = search needs
@@ -24,7 +25,7 @@ equal-requires : tie.Need-equal-requires Inv-loop μ-loop
 equal-requires c κs = search needs
 
 returns : tie.Need-returns Inv-loop μ-loop
-returns c = find-here _ _ _ _ (c .before .before .before .loop .inv) (omega arith) (c .before .equal .ensures) (c .if1 .taken)
+returns c = first-here _ _ _ (c .before .before .before .loop .inv) (omega arith) (sym (c .before .equal .ensures) ∙ c .if1 .taken)
 
 add-s : tie.Need-add-s Inv-loop μ-loop
 add-s c = search needs
@@ -33,10 +34,10 @@ loop-less : tie.Need-loop-less Inv-loop μ-loop
 loop-less c = search needs
 
 loop-again : tie.Need-loop-again Inv-loop μ-loop
-loop-again c = find-on _ _ _ _ (c .before .before .before .loop .inv) (omega arith) (c .before .equal .ensures) (c .if1 .left)
+loop-again c = first-on _ _ _ (c .before .before .before .loop .inv) (omega arith) (sym (c .before .equal .ensures) ∙ c .if1 .left)
 
 returns-2 : tie.Need-returns-2 Inv-loop μ-loop
-returns-2 c = find-none _ _ _ _ (c .before .loop .inv) (omega arith)
+returns-2 c = first-end _ _ _ (c .before .loop .inv) (omega arith)
 
 pub find-spec : {M : Type 1} → statement M
 find-spec =

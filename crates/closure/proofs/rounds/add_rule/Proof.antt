@@ -1,7 +1,7 @@
 -- `closure::rounds::add_rule` meets its contract. Assumes nothing.
 use mathlib.Core.Path.{sym, _∙_}
 use borrow.Author.Needs.{needs}
-use Rattle.closure.proofs.Bits.{put-if-yes, put-if-no}
+use Rattle.kernels.proofs.Puts.{put-if-yes, put-if-no}
 use Rattle.closure.proofs.rounds.add_rule.Statement.{statement}
 use Rattle.closure.proofs.rounds.add_rule.Tie as tie
 

@@ -8,7 +8,7 @@ use Rattle.laws.specs.Loops.{upTo}
 use Rattle.laws.proofs.Loops.{upTo-zero, upTo-more, upTo-end}
 use Rattle.table.specs.Layout.{rulesIn, viewRules}
 use Rattle.closure.specs.UnderWay.{putRule}
-use Rattle.closure.proofs.Bits.{length-put-if}
+use Rattle.kernels.proofs.Puts.{length-put-if}
 use Rattle.closure.proofs.rounds.add_rules.Statement.{statement}
 use Rattle.closure.proofs.rounds.add_rules.Tie as tie
 

@@ -9,7 +9,7 @@ use lib.ListN.{length}
 use Rattle.kernels.specs.Kernel.{items}
 use Rattle.kernels.proofs.Kernel.{items-le}
 use Rattle.closure.specs.UnderWay.{Grew}
-use Rattle.closure.proofs.Bits.{has-zero, items-kept}
+use Rattle.kernels.proofs.Puts.{has-zero, items-kept}
 use Rattle.closure.proofs.UnderWay.{nothing-met, grew-none, grew-more, none-added}
 use Rattle.closure.proofs.Closed.{is-closure}
 use Rattle.closure.proofs.rounds.close.Statement.{statement}

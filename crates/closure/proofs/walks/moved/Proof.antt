@@ -6,8 +6,9 @@ use native.Mathlib.Omega.{arith}
 use borrow.Author.Needs.{needs}
 use Rattle.table.specs.Layout.{rulesIn, viewRules}
 use Rattle.closure.specs.Walk.{putMoved}
-use Rattle.closure.proofs.Bits.{has-zero, length-put-if}
-use Rattle.closure.proofs.Turn.{Walked, walk-start, found, item-inside, walk-turn, walk-end, walk-length}
+use Rattle.kernels.proofs.Puts.{has-zero, length-put-if}
+use Rattle.kernels.proofs.KernelWalk.{Walked, walk-start, walk-turn, walk-end, walk-length}
+use Rattle.closure.proofs.Turn.{found, item-inside}
 use Rattle.closure.proofs.Walk.{holds-moved}
 use Rattle.closure.proofs.walks.moved.Statement.{statement}
 use Rattle.closure.proofs.walks.moved.Tie as tie

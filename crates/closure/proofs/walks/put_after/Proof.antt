@@ -8,7 +8,7 @@ use borrow.Author.Needs.{needs}
 use lib.Dec.{eqb}
 use Rattle.kernels.specs.Kernel.{put}
 use Rattle.closure.proofs.Rules.{after-inside}
-use Rattle.closure.proofs.Bits.{put-if-yes, put-if-no}
+use Rattle.kernels.proofs.Puts.{put-if-yes, put-if-no}
 use Rattle.closure.proofs.walks.put_after.Statement.{statement}
 use Rattle.closure.proofs.walks.put_after.Tie as tie
 

@@ -5,7 +5,7 @@ use borrow.Author.Needs.{needs}
 use lib.Dec.{eqb}
 use Rattle.laws.proofs.Choice.{when-yes, when-no, and-on, and-off, no-of, yes-of}
 use Rattle.symbols.specs.Symbol.{START}
-use Rattle.closure.proofs.Bits.{put-if-yes, put-if-no}
+use Rattle.kernels.proofs.Puts.{put-if-yes, put-if-no}
 use Rattle.closure.proofs.walks.put_completed.Statement.{statement}
 use Rattle.closure.proofs.walks.put_completed.Tie as tie
 

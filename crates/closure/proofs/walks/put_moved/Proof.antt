@@ -6,7 +6,7 @@ use borrow.Author.Tests.{eq-eqb, ne-eqb}
 use borrow.Author.Needs.{needs}
 use lib.Dec.{eqb}
 use Rattle.closure.proofs.Rules.{after-inside}
-use Rattle.closure.proofs.Bits.{put-if-yes, put-if-no}
+use Rattle.kernels.proofs.Puts.{put-if-yes, put-if-no}
 use Rattle.closure.proofs.walks.put_moved.Statement.{statement}
 use Rattle.closure.proofs.walks.put_moved.Tie as tie
 

@@ -6,8 +6,9 @@ use native.Mathlib.Omega.{arith}
 use borrow.Author.Needs.{needs}
 use Rattle.table.specs.Layout.{rulesIn, viewRules}
 use Rattle.closure.specs.Walk.{putAfter}
-use Rattle.closure.proofs.Bits.{has-zero, length-put-if}
-use Rattle.closure.proofs.Turn.{Walked, walk-start, found, item-inside, walk-turn, walk-end, walk-length}
+use Rattle.kernels.proofs.Puts.{has-zero, length-put-if}
+use Rattle.kernels.proofs.KernelWalk.{Walked, walk-start, walk-turn, walk-end, walk-length}
+use Rattle.closure.proofs.Turn.{found, item-inside}
 use Rattle.closure.proofs.Walk.{holds-symbols}
 use Rattle.closure.proofs.walks.symbols_after.Statement.{statement}
 use Rattle.closure.proofs.walks.symbols_after.Tie as tie

@@ -1,6 +1,7 @@
 -- `expansion::grow::grow` meets its contract. Assumes nothing.
 use native.Mathlib.Omega.{arith}
-use Rattle.expansion.proofs.Closed.{formed-rules, closed-inside}
+use Rattle.expansion.proofs.Closed.{closed-inside}
+use Rattle.table.proofs.Formed.{formed-rules}
 use Rattle.expansion.proofs.Filled.{grow-leads, grow-end}
 use borrow.Author.Needs.{needs}
 use Rattle.expansion.proofs.grow.grow.Statement.{statement}
@@ -10,7 +11,7 @@ lead-requires : tie.Need-lead-requires
 lead-requires c κs = grow-leads _ _ _ _ (c .before .before .before .before .before .pre)
 
 completed-items-requires : tie.Need-completed-items-requires
-completed-items-requires c κs = (formed-rules _ (c .before .before .before .before .before .before .before .before .before .before .pre .closed .is .formed), c .before .before .before .before .before .before .before .before .before .before .pre .closed .held .within)
+completed-items-requires c κs = (formed-rules (c .before .before .before .before .before .before .before .before .before .before .pre .closed .is .formed), c .before .before .before .before .before .before .before .before .before .before .pre .closed .held .within)
 
 mark-requires : tie.Need-mark-requires
 mark-requires c κs = search needs

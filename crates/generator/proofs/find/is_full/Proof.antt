@@ -5,10 +5,9 @@ use Prim.Native.Nat.{_≤_, _-_}
 use native.Mathlib.Omega.{arith}
 use borrow.Author.Needs.{needs}
 use Rattle.laws.specs.Loops.{allBelow}
-use Rattle.laws.proofs.Loops.{all-none, all-more, all-end}
+use Rattle.laws.proofs.Loops.{all-none, all-more, all-stops, all-end}
 use Rattle.generator.specs.Find.{hasState}
 use Rattle.generator.proofs.States.{state-is, state-not}
-use Rattle.generator.proofs.Lowest.{all-stops}
 use Rattle.generator.proofs.find.is_full.Statement.{statement}
 use Rattle.generator.proofs.find.is_full.Tie as tie
 
@@ -28,7 +27,7 @@ state-requires : tie.Need-state-requires Inv-loop μ-loop
 state-requires c κs = search needs
 
 returns : tie.Need-returns Inv-loop μ-loop
-returns c = all-stops _ {r = c .before .before .before .loop .r} (omega arith) (state-not _ _ _ (c .before .state .ensures) (c .if1 .taken))
+returns c = all-stops _ {i = c .before .before .before .loop .r} (omega arith) (state-not _ _ _ (c .before .state .ensures) (c .if1 .taken))
 
 add-r : tie.Need-add-r Inv-loop μ-loop
 add-r c = search needs

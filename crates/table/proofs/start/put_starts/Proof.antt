@@ -1,4 +1,4 @@
--- `masks::put_starts` meets its contract. The invariant: the items of the rules below r are put. Assumes nothing.
+-- `table::start::put_starts` meets its contract. The invariant: the items of the rules below r are put. Assumes nothing.
 use mathlib.Core.Path.{_≡_, sym, ap, _∙_}
 use Prim.Native.Nat.{_-_, _≤_}
 use native.Mathlib.Omega.{arith}
@@ -6,16 +6,16 @@ use borrow.Author.Needs.{needs}
 use lib.ListN.{length}
 use Rattle.laws.specs.Loops.{upTo}
 use Rattle.laws.proofs.Loops.{upTo-zero, upTo-more, upTo-end}
 use Rattle.table.specs.Layout.{rulesIn}
-use Rattle.form.specs.Masks.{putStart}
-use Rattle.form.proofs.masks.put_starts.Statement.{statement}
-use Rattle.form.proofs.masks.put_starts.Tie as tie
+use Rattle.table.specs.Start.{putStart, putStarts}
+use Rattle.table.proofs.start.put_starts.Statement.{statement}
+use Rattle.table.proofs.start.put_starts.Tie as tie
 
 abbrev Inv-loop : tie.InvT-loop
-Inv-loop rules mask₀ n r₀ mask r = (r ≤ n) × (length mask ≡ 18) × (mask ≡ upTo r (putStart rules) mask₀)
+Inv-loop rules words₀ n r₀ words r = (r ≤ n) × (length words ≡ length words₀) × (words ≡ upTo r (putStart rules) words₀)
 
 abbrev μ-loop : tie.MeasureT-loop
-μ-loop rules mask₀ n r₀ mask r = n - r
+μ-loop rules words₀ n r₀ words r = n - r
 
 rules-in-requires : tie.Need-rules-in-requires Inv-loop μ-loop
 rules-in-requires c κs = search needs
@@ -36,16 +36,14 @@ loop-again : tie.Need-loop-again Inv-loop μ-loop
 loop-again c = (
   search needs,
   search needs,
-  c .before .before .put-start .ensures ∙ ap
-      (putStart (c .before .before .before .before .before .before .before .before .before .args .rules .now)
-      (c .before .before .before .before .before .loop .r)) (c .before .before .before .before .before .loop .inv .2) ∙ sym
-      (upTo-more _ _ _),
+  c .before .before .put-start .ensures ∙ ap (putStart _ _) (c .before .before .before .before .before .loop .inv .2) ∙ sym (upTo-more _ _ _),
 )
 
 same-length : tie.Need-same-length Inv-loop μ-loop
 same-length c = search needs
 
 returns : tie.Need-returns Inv-loop μ-loop
+unfolding putStarts
 returns c =
     let e : c .before .loop .r ≡ rulesIn (c .before .before .before .before .before .args .rules .now) = omega arith in
     upTo-end _ _ _ e (c .before .loop .inv .2)

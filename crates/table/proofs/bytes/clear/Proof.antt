@@ -1,13 +1,13 @@
--- `collection::sweep::clear` meets its contract. The invariant: the numbers are those at the entry, the first k written. Assumes nothing.
+-- `table::bytes::clear` meets its contract. The invariant: the first k numbers are zero. Assumes nothing.
 use mathlib.Core.Path.{_≡_, sym}
 use Prim.Native.Nat.{_-_, _≤_}
 use native.Mathlib.Omega.{arith}
+use borrow.Author.Needs.{needs}
 use lib.ListN.{length}
 use Rattle.kernels.specs.Write.{writeWords}
 use Rattle.kernels.proofs.Write.{write-none, write-more, write-end}
-use borrow.Author.Needs.{needs}
-use Rattle.collection.proofs.sweep.clear.Statement.{statement}
-use Rattle.collection.proofs.sweep.clear.Tie as tie
+use Rattle.table.proofs.bytes.clear.Statement.{statement}
+use Rattle.table.proofs.bytes.clear.Tie as tie
 
 abbrev Inv-loop : tie.InvT-loop
 Inv-loop bytes₀ at n k₀ bytes k = (k ≤ n) × (length bytes ≡ length bytes₀) × (bytes ≡ writeWords bytes₀ at (λ j. 0) k)
@@ -37,7 +37,9 @@ same-length : tie.Need-same-length Inv-loop μ-loop
 same-length c = search needs
 
 returns : tie.Need-returns Inv-loop μ-loop
-returns c = let e : c .before .loop .k ≡ c .before .before .args .n = omega arith in write-end _ _ _ e (c .before .loop .inv .2)
+returns c =
+    let e : c .before .loop .k ≡ c .before .before .args .n = omega arith in
+    write-end _ _ _ e (c .before .loop .inv .2)
 
 pub clear-spec : {M : Type 1} → statement M
 clear-spec =

@@ -13,12 +13,11 @@ use Rattle.laws.specs.Choice.{when}
 use Rattle.laws.specs.Loops.{upTo}
 use Rattle.laws.proofs.Choice.{when-yes, when-no, when-cases}
 use Rattle.laws.proofs.Tests.{last-or-below, eqb-iff}
 use Rattle.kernels.specs.Bit.{bit}
 use Rattle.kernels.specs.Walk.{howMany, visit}
-use Rattle.kernels.specs.Kernel.{has, put, items}
+use Rattle.kernels.specs.Kernel.{has, put, putIf, items}
 use Rattle.kernels.proofs.Bit.{bit-of-zero}
 use Rattle.kernels.proofs.Kernel.{has-cases, length-put, has-put-same, has-put-other}
-use Rattle.closure.specs.Walk.{putIf}
 
 -- ---- one bit, put in where a test passes
 
