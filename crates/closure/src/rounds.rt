@@ -73,7 +73,7 @@ fn add_rules(rules: &[u8], closure: &mut [u64], b: Symbol)
     requires { ⌜ FormedRules (now rules) × (length (now closure) ≡ 16) ⌝ }
     ensures { λ _. ⌜ now (closure .exit) ≡ upTo (rulesIn (now (rules .entry))) (putRule (viewRules (now (rules .entry))) (b .0)) (now (closure .entry)) ⌝ }
 {
-    let n = rules[1] as usize;
+    let n = table::rules_in(rules);
     let mut r = 0;
     while r < n {
         add_rule(rules, closure, b, r);

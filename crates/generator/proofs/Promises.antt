@@ -1,4 +1,4 @@
--- From what a call does on a table in form to what it promises on any numbers, and changes one after the other. Assumes nothing.
+-- From what a call does on a table in form to what it promises on any numbers. Assumes nothing.
 use mathlib.Core.List.{List}
 use mathlib.Core.Path.{_≡_, refl, sym, ap, subst, _∙_}
 use Prim.Native.Nat.{ℕ}

@@ -19,7 +19,7 @@ fn make(cells: &mut [u8], words: &mut [u64], t: usize, key: &[u64])
     requires { ⌜ (t < 256) × (t * 128 + 128 ≤ length (now cells)) × (t * 18 + 18 ≤ length (now words)) × (16 ≤ length (now key)) ⌝ }
     ensures { λ _. ⌜ setsOf (now (cells .exit)) (now (words .exit)) ≡ made t (now (key .entry)) (setsOf (now (cells .entry)) (now (words .entry))) ⌝ }
 {
-    cells[t * 128] = 1;
+    cells[t * 128] = table::UNEXPANDED;
     kernels::copy(words, t * 18, key, 0);
 }
 

@@ -19,7 +19,7 @@ use Rattle.links.specs.declared.Here.{Here}
 use Rattle.links.specs.Records.{inSet, Graph, linksOf}
 use Rattle.links.specs.Held.{Held}
 use Rattle.saturation.specs.Ends.{Accepting, Marked, LowestIn, Lower}
-use Rattle.saturation.proofs.Nodes.{here-in, here-of}
+use Rattle.saturation.proofs.Nodes.{here-in, here-of, set-low}
 
 -- ---- what a mark says
 
@@ -48,17 +48,14 @@ tells-iff true f g t = f t
 tells-iff false f g t = λ q. t (g q)
 
 module _ (m : Mem) {h : Here} {x : Graph} (H : Held h x) (few : h .sets ≡ setsIn (m .rules)) where
-  set-low : (n : ℕ) → n < x .nodes → inSet (x .buf) n < setsIn (m .rules)
-  set-low n i = let l = H .core .in-sets n i in omega arith
-
   pub accepting : (b : Bool) → Tells b (Marked (x .buf) (m .sets .cells) (h .start) (x .nodes) 3) → Tells b (Accepting (view m) (h .position) (linksOf x))
   accepting b = tells-iff b
-      (λ w. record { set = inSet (x .buf) (w .m); here = here-in H (w .m) (w .low) (w .from); mark = accepts-iff m (inSet (x .buf) (w .m)) (set-low (w .m) (w .low)) .1 (w .mark) })
+      (λ w. record { set = inSet (x .buf) (w .m); here = here-in H (w .m) (w .low) (w .from); mark = accepts-iff m (inSet (x .buf) (w .m)) (set-low H few (w .m) (w .low)) .1 (w .mark) })
       (λ a. let (n, from, low, is) = here-of H (a .here) in record {
         m = n;
         from = from;
         low = low;
-        mark = accepts-iff m (inSet (x .buf) n) (set-low n low) .0 (subst (λ u. T (setAt (view m .sets) u .accepts)) (sym is) (a .mark));
+        mark = accepts-iff m (inSet (x .buf) n) (set-low H few n low) .0 (subst (λ u. T (setAt (view m .sets) u .accepts)) (sym is) (a .mark));
       })
 
   -- ---- the lowest unexpanded set
@@ -67,7 +64,7 @@ module _ (m : Mem) {h : Here} {x : Graph} (H : Held h x) (few : h .sets ≡ sets
     below : (v : ℕ) → In v (nodesAt (linksOf x) (h .position)) → setAt (view m .sets) v .state ≡ UNEXPANDED → (r ≤ v) × (v < h .sets)
     below v i e =
         let (n, from, low, is) = here-of H i in
-        let q = unexpanded-iff m (inSet (x .buf) n) (set-low n low) .0 (subst (λ u. setAt (view m .sets) u .state ≡ UNEXPANDED) (sym is) e) in
+        let q = unexpanded-iff m (inSet (x .buf) n) (set-low H few n low) .0 (subst (λ u. setAt (view m .sets) u .state ≡ UNEXPANDED) (sym is) e) in
         let a = L .least n from low q in
         let b = H .core .in-sets n low in
         (omega arith, omega arith)
@@ -79,7 +76,7 @@ module _ (m : Mem) {h : Here} {x : Graph} (H : Held h x) (few : h .sets ≡ sets
     waits d =
         let (n, from, low, is, mark) = L .hit (omega (arith, L .low)) in record {
           here = subst (λ u. In u (nodesAt (linksOf x) (h .position))) is (here-in H n low from);
-          unexpanded = subst (λ u. setAt (view m .sets) u .state ≡ UNEXPANDED) is (unexpanded-iff m (inSet (x .buf) n) (set-low n low) .1 mark);
+          unexpanded = subst (λ u. setAt (view m .sets) u .state ≡ UNEXPANDED) is (unexpanded-iff m (inSet (x .buf) n) (set-low H few n low) .1 mark);
           least = λ v l i e. let (a, b) = below v i e in omega arith;
         }
 

@@ -38,6 +38,10 @@ module _ {h : Here} {x : Graph} (H : Held h x) where
         (source-in (in-links (x .buf) (x .links) .1 (lastLink (x .buf) n, omega arith, (let q = a .below in omega arith), refl)))
   ]
 
+  -- the set of a node is one of the pool's
+  pub set-low : {S : ℕ} → h .sets ≡ S → (n : ℕ) → n < x .nodes → inSet (x .buf) n < S
+  set-low e n i = let l = H .core .in-sets n i in omega arith
+
   -- the sets at this position are those of the nodes from `start` on
   pub here-in : (n : ℕ) → n < x .nodes → h .start ≤ n → In (inSet (x .buf) n) (nodesAt (linksOf x) (h .position))
   here-in n l g = in-nodesAt (linksOf x) (h .position) .1 (rw (sym (H .core .here n l g)) (node-in n l))

@@ -21,7 +21,7 @@ use Rattle.links.proofs.Listed.{count, distinct, in-grown}
 use Rattle.saturation.specs.Wanted.{ToSpan}
 use Rattle.saturation.specs.Moves.{Does}
 use Rattle.saturation.specs.Ends.{next, Shifts}
-use Rattle.saturation.proofs.Nodes.{here-in, here-of}
+use Rattle.saturation.proofs.Nodes.{here-in, here-of, set-low}
 use Rattle.saturation.proofs.Table.{goto-of, cell-of}
 
 -- the graph from the next position's point of view, where no node stands yet
@@ -59,9 +59,6 @@ next-held {h} {x} H g = record {
 
 module _ {m : Mem} (F : Formed m) {h : Here} {x y : Graph} (H : Held h x) (few : h .sets ≡ setsIn (m .rules)) (fresh : x .over ≡ 0) (a : ℕ) (one : 1 ≤ a) (lt : a < 128)
     (D : Does (next h (x .nodes)) (ToSpan (x .buf) (m .sets .cells) (h .position + 1) a (h .start) (x .nodes)) x y) where
-  set-low : (n : ℕ) → n < x .nodes → inSet (x .buf) n < setsIn (m .rules)
-  set-low n i = let l = H .core .in-sets n i in omega arith
-
   New : Link → Type 0
   New l = (u : ℕ) × (s : ℕ) × In u (nodesAt (linksOf x) (h .position)) × automaton (view m) .Goto u a s × (l ≡ link (suc (h .position)) s (h .position) u)
 
@@ -72,7 +69,7 @@ module _ {m : Mem} (F : Formed m) {h : Here} {x y : Graph} (H : Held h x) (few :
         u,
         w .to .s,
         here-in H (w .m) (w .low) (w .from),
-        goto-of m F u a (w .to .s) (set-low (w .m) (w .low)) one lt (w .to .is) (w .to .some),
+        goto-of m F u a (w .to .s) (set-low H few (w .m) (w .low)) one lt (w .to .is) (w .to .some),
         w .to .the ∙ ap₂ (λ i j. link i (w .to .s) j u) (add-one (h .position)) (H .core .here (w .m) (w .low) (w .from)),
       )
 
@@ -85,7 +82,7 @@ module _ {m : Mem} (F : Formed m) {h : Here} {x y : Graph} (H : Held h x) (few :
         low = low;
         to = record {
           s = s;
-          is = ap (λ u. cell (m .sets) u a) is ∙ cell-of m F u a s (subst (λ u. u < setsIn (m .rules)) is (set-low n low)) one lt g;
+          is = ap (λ u. cell (m .sets) u a) is ∙ cell-of m F u a s (subst (λ u. u < setsIn (m .rules)) is (set-low H few n low)) one lt g;
           some = g .1;
           the = e ∙ (λ z. link (sym (add-one (h .position)) z) s (sym (H .core .here n low from) z) (sym is z));
         };

@@ -21,6 +21,7 @@ use Rattle.links.proofs.Listed.{edge-in, in-grown, grown-refl, grown-trans}
 use Rattle.levels.specs.Lists.{listed}
 use Rattle.levels.specs.Reached.{Down, Reached}
 use Rattle.levels.specs.Reached.Down.{stay, on}
+use Rattle.saturation.proofs.Nodes.{set-low}
 use Rattle.saturation.specs.Wanted.{ToNode, ToList, NextRule, AtRule, AtNode, AtAll}
 use Rattle.saturation.specs.Moves.{Does, Within, Works}
 use Rattle.saturation.proofs.Table.{goto-of, reduces-of, rule-low, left-in, left-is, length-is}
@@ -60,9 +61,6 @@ module _ {h : Here} {x y : Graph} (C : Core h x) (g : Grown x y) (e : Even x y) 
 -- ---- a reduction
 
 module _ {m : Mem} (F : Formed m) {h : Here} {x : Graph} (H : Held h x) (few : h .sets ≡ setsIn (m .rules)) where
-  pub set-low : (n : ℕ) → n < x .nodes → inSet (x .buf) n < setsIn (m .rules)
-  set-low n i = let l = H .core .in-sets n i in omega arith
-
   down-in : {n k a : ℕ} → n < x .nodes → Down (x .buf) (x .links) n k a → a < x .nodes
   down-in i stay = i
   down-in i (on q e) = let l = H .core .under-in (e .k) (e .some) (e .inside) in let f = e .to in omega arith
@@ -96,20 +94,20 @@ module _ {m : Mem} (F : Formed m) {h : Here} {x : Graph} (H : Held h x) (few : h
         → AtRule m (h .position) n r x l → Linked (view m) ls (h .position) l
     rule-linked n r i g q red l w =
         let e = H .core .here n i g in
-        let s = set-low n i in
+        let s = set-low H few n i in
         let k = rule-low m F (inSet (x .buf) n) r s q red in
         let (a, b) = left-in m F (inSet (x .buf) n) r s q red in
         reduced r (noded n i e) (reduces-of m F (inSet (x .buf) n) r s q red)
         (subst₂ (λ k i. Path (view m) ls (h .position) k i (inSet (x .buf) n) (position (x .buf) (w .end)) (inSet (x .buf) (w .end))) (sym (length-is m F r k)) e (path-of (w .path)))
         (subst (λ a. automaton (view m) .Goto (inSet (x .buf) (w .end)) a (w .to .s)) (sym (left-is m F r k))
-        (goto-of m F (inSet (x .buf) (w .end)) (ruleNumber (m .rules) r 1) (w .to .s) (set-low (w .end) (down-in i (w .path))) a b (w .to .is) (w .to .some)))
+        (goto-of m F (inSet (x .buf) (w .end)) (ruleNumber (m .rules) r 1) (w .to .s) (set-low H few (w .end) (down-in i (w .path))) a b (w .to .is) (w .to .some)))
         (sym (w .to .the))
 
-  pub rule-works : {y : Graph} (n r : ℕ) (w : List ℕ) (side c : ℕ) → n < x .nodes → h .start ≤ n → r < 128 → bitOf (m .sets) (inSet (x .buf) n) (1024 + r) ≡ 1
+  works-by : {y : Graph} (n r : ℕ) (w : List ℕ) (side c : ℕ) → n < x .nodes → h .start ≤ n → r < 128 → bitOf (m .sets) (inSet (x .buf) n) (1024 + r) ≡ 1
       → Reached (x .buf) (x .links) (x .nodes) n (ruleNumber (m .rules) r 2) w side c
       → Does h (ToList (x .buf) (m .sets .cells) w side (h .position) (ruleNumber (m .rules) r 1) c) x y
       → Works (view m) h (AtRule m (h .position) n r) x y
-  rule-works n r w side c i g q red R D = record {
+  works-by n r w side c i g q red R D = record {
     held = D .held;
     grown = D .grown;
     there = λ o e l v.
@@ -119,6 +117,14 @@ module _ {m : Mem} (F : Formed m) {h : Here} {x : Graph} (H : Held h x) (few : h
     keeps = λ ls G. does-keeps D (view m) ls
         (λ l v. rule-linked ls G n r i g q red l (record { end = listed w side (v .j); path = R .only (listed w side (v .j)) (record { i = v .j; low = v .low; is = refl }); to = v .to })) G;
   }
+
+  -- a and k are the rule's left symbol and its length, as they were read
+  pub rule-works : {y : Graph} (n r : ℕ) (w : List ℕ) (side c : ℕ) {a k : ℕ} → a ≡ ruleNumber (m .rules) r 1 → k ≡ ruleNumber (m .rules) r 2
+      → n < x .nodes → h .start ≤ n → r < 128 → bitOf (m .sets) (inSet (x .buf) n) (1024 + r) ≡ 1 → Reached (x .buf) (x .links) (x .nodes) n k w side c
+      → Does h (ToList (x .buf) (m .sets .cells) w side (h .position) a c) x y → Works (view m) h (AtRule m (h .position) n r) x y
+  rule-works {y} n r w side c e f i g q red R D =
+      works-by n r w side c i g q red (subst (λ k. Reached (x .buf) (x .links) (x .nodes) n k w side c) f R)
+      (subst (λ a. Does h (ToList (x .buf) (m .sets .cells) w side (h .position) a c) x y) e D)
 
 -- ---- one step after the other
 

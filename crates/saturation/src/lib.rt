@@ -97,8 +97,8 @@ fn reduce(
     requires { ⌜ (n < c .nodes) × ((here .start ≤ n) × ((r < 128) × (has (now words) (inSet (now buf) n * 18) (1024 + r) ≡ 1))) ⌝ }
     ensures { λ d. ⌜ Works (view (mem (now (rules .entry)) (now (cells .entry)) (now (words .entry)))) here (AtRule (mem (now (rules .entry)) (now (cells .entry)) (now (words .entry))) (here .position) n r) (graph (now (buf .entry)) (now (at .entry)) c) (graph (now (buf .exit)) (now (at .exit)) d) ⌝ }
 {
-    let x = rules[2 + r * 10 + 1] as usize;
-    let k = rules[2 + r * 10 + 2] as usize;
+    let x = table::left(rules, r);
+    let k = table::len(rules, r);
     let l = levels::levels(buf, work, c.nodes, c.links, n, k);
     link_level(buf, at, work, cells, c, here, x, l)
 }

@@ -1,4 +1,5 @@
--- A set depends on its row only, and what a loop does to each row whose turn s writes row s only. Assumes nothing.
+-- A set depends on its row only; rows of zeros but for the mark; and what a loop does to each row whose turn s writes row s only.
+-- Assumes nothing.
 use mathlib.Core.Bool.{not}
 use mathlib.Core.List.{List, [], map}
 use mathlib.Core.Path.{_≡_, refl, sym, ap, subst, _∙_}

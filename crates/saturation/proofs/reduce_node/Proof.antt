@@ -9,7 +9,8 @@ use Rattle.links.specs.Records.{graph, inSet}
 use Rattle.links.proofs.Chain.{chained, node-inside}
 use Rattle.saturation.specs.Wanted.{AtNode}
 use Rattle.saturation.specs.Moves.{Works}
-use Rattle.saturation.proofs.Works.{set-low, bit-now, node-start, node-next, node-end}
+use Rattle.saturation.proofs.Works.{bit-now, node-start, node-next, node-end}
+use Rattle.saturation.proofs.Nodes.{set-low}
 use Rattle.saturation.proofs.reduce_node.Statement.{statement}
 use Rattle.saturation.proofs.reduce_node.Tie as tie
 
@@ -29,7 +30,7 @@ number-requires : tie.Need-number-requires Inv-loop μ-loop
 number-requires c κs = let h = node-inside (chained (c .before .before .before .before .before .before .before .pre .0 .0 .core)) (c .before .before .before .before .before .before .before .pre .1 .1 .0) in omega arith
 
 next-reduction-requires : tie.Need-next-reduction-requires Inv-loop μ-loop
-next-reduction-requires c κs = let F = c .before .before .before .before .before .before .before .before .pre .1 .0 .0 in let s = set-low F (c .before .before .before .before .before .before .before .before .pre .0 .0) (c .before .before .before .before .before .before .before .before .pre .1 .0 .1) _ (c .before .before .before .before .before .before .before .before .pre .1 .1 .0) in omega (arith, c .number .ensures, F .laid .sized .few-sets, F .laid .sized .words)
+next-reduction-requires c κs = let F = c .before .before .before .before .before .before .before .before .pre .1 .0 .0 in let s = set-low (c .before .before .before .before .before .before .before .before .pre .0 .0) (c .before .before .before .before .before .before .before .before .pre .1 .0 .1) _ (c .before .before .before .before .before .before .before .before .pre .1 .1 .0) in omega (arith, c .number .ensures, F .laid .sized .few-sets, F .laid .sized .words)
 
 loop-holds : tie.Need-loop-holds Inv-loop μ-loop
 loop-holds c =
@@ -43,7 +44,7 @@ add-next-reduction : tie.Need-add-next-reduction Inv-loop μ-loop
 add-next-reduction c = omega arith
 
 next-reduction-requires-2 : tie.Need-next-reduction-requires-2 Inv-loop μ-loop
-next-reduction-requires-2 c κs = let F = c .before .before .before .before .before .before .before .before .before .before .before .before .before .before .before .before .before .before .before .before .before .pre .1 .0 .0 in let s = set-low F (c .before .before .before .before .before .before .before .before .before .before .before .before .before .before .before .before .before .before .before .before .before .pre .0 .0) (c .before .before .before .before .before .before .before .before .before .before .before .before .before .before .before .before .before .before .before .before .before .pre .1 .0 .1) _ (c .before .before .before .before .before .before .before .before .before .before .before .before .before .before .before .before .before .before .before .before .before .pre .1 .1 .0) in omega (arith, c .before .before .before .before .before .before .before .before .before .before .before .before .before .number .ensures, F .laid .sized .few-sets, F .laid .sized .words)
+next-reduction-requires-2 c κs = let F = c .before .before .before .before .before .before .before .before .before .before .before .before .before .before .before .before .before .before .before .before .before .pre .1 .0 .0 in let s = set-low (c .before .before .before .before .before .before .before .before .before .before .before .before .before .before .before .before .before .before .before .before .before .pre .0 .0) (c .before .before .before .before .before .before .before .before .before .before .before .before .before .before .before .before .before .before .before .before .before .pre .1 .0 .1) _ (c .before .before .before .before .before .before .before .before .before .before .before .before .before .before .before .before .before .before .before .before .before .pre .1 .1 .0) in omega (arith, c .before .before .before .before .before .before .before .before .before .before .before .before .before .number .ensures, F .laid .sized .few-sets, F .laid .sized .words)
 
 loop-less : tie.Need-loop-less Inv-loop μ-loop
 loop-less c = omega (arith, c .next-reduction2 .ensures .low)

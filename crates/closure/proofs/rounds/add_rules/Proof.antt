@@ -18,11 +18,8 @@ Inv-loop rules closure₀ b n r₀ closure r = (r ≤ rulesIn rules) × (length 
 abbrev μ-loop : tie.MeasureT-loop
 μ-loop rules closure₀ b n r₀ closure r = rulesIn rules - r
 
-shared-slice-read-n : tie.Need-shared-slice-read-n Inv-loop μ-loop
-shared-slice-read-n c = search needs
-
-cast-n : tie.Need-cast-n Inv-loop μ-loop
-cast-n c = omega (arith, c .shared-slice-known2 .given 1)
+rules-in-requires : tie.Need-rules-in-requires Inv-loop μ-loop
+rules-in-requires c κs = search needs
 
 loop-holds : tie.Need-loop-holds Inv-loop μ-loop
 loop-holds c = (search needs, search needs, sym (upTo-zero _ _))
@@ -54,8 +51,7 @@ add-rules-spec =
     (tie.spec
     Inv-loop
     μ-loop
-    shared-slice-read-n
-    cast-n
+    rules-in-requires
     loop-holds
     add-rule-requires
     add-r
