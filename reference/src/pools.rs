@@ -7,9 +7,8 @@
 //! bit 1,024 on one for each reduction.
 
 use crate::parse::parse;
-use crate::table::{Expansion, Item, Kernel, Rule, RulePlace, Set, Symbol, Table, START};
+use crate::table::{Expansion, Item, Kernel, Rule, RulePlace, Set, Symbol, Table, Transitions, START};
 use crate::Refusal;
-use std::collections::BTreeMap;
 
 const SIZES: usize = 2;
 const RULE: usize = 10;
@@ -136,11 +135,13 @@ impl Pools {
         let words = &self.words[WORDS * s..][..WORDS];
         let bits: Vec<usize> = (0..LAST_BIT).filter(|b| words[b / 64] >> (b % 64) & 1 == 1).collect();
         let (items, reductions) = bits.split_at(bits.partition_point(|&b| b < FIRST_REDUCTION));
-        let transitions: BTreeMap<Symbol, usize> =
-            (1..).zip(targets).filter(|(_, &t)| t != 0).map(|(x, &t)| (x, usize::from(t))).collect();
+        let mut transitions = Transitions::default();
+        for (symbol, &target) in (1..).zip(targets) {
+            transitions.insert(symbol, usize::from(target));
+        }
         let reductions: Vec<usize> = reductions.iter().map(|b| b - FIRST_REDUCTION).collect();
         let kernel: Kernel = items.iter().map(|i| Item { rule: i / 8, dot: i % 8 }).collect();
-        let bare = transitions.is_empty() && reductions.is_empty();
+        let bare = transitions == Transitions::default() && reductions.is_empty();
         match mark {
             0 => (bare && kernel.is_empty()).then_some(None),
             1 => bare.then_some(Some(Set { kernel, expansion: None })),
@@ -192,7 +193,7 @@ fn store_set(place: Option<&Set>, cells: &mut [u8], words: &mut [u64]) {
     }
     let Some(expansion) = &set.expansion else { return };
     cells[0] = if expansion.accepts { 3 } else { 2 };
-    for (&symbol, &target) in &expansion.transitions {
+    for (symbol, target) in expansion.transitions.iter() {
         cells[usize::from(symbol)] = target as u8;
     }
     for reduction in &expansion.reductions {
@@ -256,5 +257,5 @@ fn names_current_on(rules: &[RulePlace], sets: &[Option<Set>], set: &Set) -> boo
 }
 
 fn targets(set: &Set) -> impl Iterator<Item = usize> + '_ {
-    set.expansion.iter().flat_map(|e| e.transitions.values().copied())
+    set.expansion.iter().flat_map(|e| e.transitions.iter().map(|(_, target)| target))
 }

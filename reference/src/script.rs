@@ -137,8 +137,9 @@ fn read_numbers(mut rest: &[u8]) -> Option<Vec<usize>> {
 }
 
 fn numbers(out: &mut String, numbers: &[usize]) {
-    let text: Vec<String> = numbers.iter().map(usize::to_string).collect();
-    out.push_str(&text.join(" "));
+    for (i, number) in numbers.iter().enumerate() {
+        let _ = write!(out, "{}{number}", if i == 0 { "" } else { " " });
+    }
     out.push('\n');
 }
 
@@ -157,7 +158,7 @@ fn list(table: &Table, out: &mut String) {
         }
         if let Some(expansion) = &set.expansion {
             out.push_str(" T");
-            for (symbol, target) in &expansion.transitions {
+            for (symbol, target) in expansion.transitions.iter() {
                 let _ = write!(out, " {symbol}>{target}");
             }
             out.push_str(" R");

@@ -74,9 +74,34 @@ pub struct Item {
 /// Ascending.
 pub type Kernel = Vec<Item>;
 
+/// A target for each symbol. No transition leads to set 0, so 0 says that there is none.
+#[derive(Clone, Debug, PartialEq, Eq)]
+pub struct Transitions([u8; 128]);
+
+impl Default for Transitions {
+    fn default() -> Transitions {
+        Transitions([0; 128])
+    }
+}
+
+impl Transitions {
+    pub fn get(&self, symbol: Symbol) -> Option<usize> {
+        Some(usize::from(self.0[usize::from(symbol)])).filter(|&target| target != 0)
+    }
+
+    pub fn insert(&mut self, symbol: Symbol, target: usize) {
+        self.0[usize::from(symbol)] = target as u8;
+    }
+
+    /// Each symbol with its target, ascending.
+    pub fn iter(&self) -> impl Iterator<Item = (Symbol, usize)> + '_ {
+        (1..128).filter_map(|symbol| Some((symbol, self.get(symbol)?)))
+    }
+}
+
 #[derive(Clone, Debug, Default, PartialEq, Eq)]
 pub struct Expansion {
-    pub transitions: BTreeMap<Symbol, usize>,
+    pub transitions: Transitions,
     pub reductions: Vec<usize>,
     pub accepts: bool,
 }
@@ -177,7 +202,7 @@ impl Table {
             return;
         }
         for set in self.sets.iter_mut().flatten() {
-            if set.expansion.as_ref().is_some_and(|e| e.transitions.contains_key(&left)) {
+            if set.expansion.as_ref().is_some_and(|e| e.transitions.get(left).is_some()) {
                 set.expansion = None;
             }
         }
@@ -218,7 +243,7 @@ impl Table {
         reached[0] = true;
         while let Some(number) = waiting.pop() {
             let Some(expansion) = &self.set(number).expansion else { continue };
-            for &target in expansion.transitions.values() {
+            for (_, target) in expansion.transitions.iter() {
                 if !reached[target] {
                     reached[target] = true;
                     waiting.push(target);
