@@ -1,49 +1,32 @@
-// The desk: scripts from standard input or from files, their commands run one after the other, their answers printed.
+// The desk: one command line answered, over the pools that the program keeps.
 //
-// Thin on purpose: what a line means and what is printed is `script`'s and `listing`'s, what a command does the calls' below
-// it. A line goes three steps: `script::read` says which command it is, `obey` makes the call and says what there is to print
-// (a `Reply`), `put` puts the reply's text into the output buffer. Bytes are read in pieces and cut into lines by `lines`.
+// `answer` takes a line without its newline, the numbers of the table and the link buffer, and puts the line's text into a lent
+// output buffer. It goes three steps: `script::read` says which command the line is, `obey` makes the call and says what there
+// is to print (a `Reply`), `put` puts the reply's text. What a line means and how it is printed is `script`'s and `listing`'s,
+// what a command does the calls' below.
 //
-// Each script starts without a table: all numbers zero, which is not in form, so its calls answer 11 until a good N. What the
-// pools hold is fixed here, for 128 sets, 128 rules and 1,024 links; an N within that takes the part that it asks for.
+// The desk starts without a table: all numbers zero, which is not in form, so its calls answer 11 until a good N. The sizes of
+// the pools are here, for "at most 128, 128 and 1,024"; an N within that takes the part that it asks for. The output buffer
+// needs ROOM for the longest text, the listing of a full table: a megabyte, so that a line's text always is in one piece and
+// the contract can say which it is.
 //
-// What is printed waits in a buffer that has room for the longest listing, and is written out before more is read and when
-// the next line might not fit. So a script of any length runs in the same memory, and who types at a keyboard is answered.
+// A line costs its call; P, G and R also a look at one byte of each set, and L what it prints.
+//
+// specs/Obeys.antt says what each command does and prints, and `Prints` there is what `answer` promises.
 mod calls; // calls.rt: each command's call, and its reply
-mod lines; // lines.rt: a script's bytes to its lines
 mod listed; // listed.rt: the whole listing
 mod obey; // obey.rt: a line to its command, its call and its text
 mod reply; // reply.rt: a reply to its text
 
-use libc::STDIN_FILENO;
+pub use obey::Answered;
+pub use obey::answer;
+pub use reply::ROOM;
 
-// Runs the script on standard input, or in each file that an argument names, in order.
-pub fn run_all() {
-    let n = os::arg_count();
-    if n < 2 {
-        lines::run(STDIN_FILENO, b"standard input");
-        return;
-    }
-    let mut i: usize = 1;
-    while i < n {
-        run_named(i);
-        i += 1;
-    }
-}
+// The numbers that a table of 128 sets and 128 rules takes, and a link pool of 1,024.
+pub const RULES: usize = 1282;
 
-// Runs the script in the file that argument i names. One that can't be opened is named on standard error.
-fn run_named(i: usize) {
-    let mut path = io::buffer();
-    let n = os::arg(i, &mut path);
-    if os::errno() != 0 {
-        os::fail(b"the name of a script");
-        return;
-    }
-    let fd = os::open_read(&path[..n]);
-    if fd < 0 {
-        os::fail(&path[..n]);
-        return;
-    }
-    lines::run(fd, &path[..n]);
-    libc::close(fd);
-}
+pub const CELLS: usize = 16384;
+
+pub const WORDS: usize = 2304;
+
+pub const LINKS: usize = 6150;

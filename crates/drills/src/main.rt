@@ -1,4 +1,4 @@
 // The drills: every stored script in data/, in the order of args, run by the same desk as the reader.
 fn main() {
-    desk::run_all();
+    scripts::run_all();
 }

@@ -1,4 +1,4 @@
 // The reader: `reader SCRIPT..`, or a script on standard input.
 fn main() {
-    desk::run_all();
+    scripts::run_all();
 }

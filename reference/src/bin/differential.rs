@@ -2,11 +2,15 @@
 //!
 //!     differential SCRIPTS SEED COMMAND..
 //!
-//! runs COMMAND (the proved reader, which reads a script on standard input) on SCRIPTS scripts made from SEED. The first script
-//! on which the two differ is cut down to a few lines and printed with both outputs.
+//! runs COMMAND (the proved reader) on SCRIPTS scripts made from SEED: in batches, as files that it is given by name, and one of
+//! each batch on standard input. The first script on which the two differ is cut down to a few lines and printed with both
+//! outputs. At the end stands how often each answer was given, so that one can see what the scripts reach.
 
 use std::io::Write as _;
+use std::path::{Path, PathBuf};
 use std::process::{Command, ExitCode, Stdio};
+
+const BATCH: u64 = 50;
 
 fn main() -> ExitCode {
     let mut words = std::env::args().skip(1);
@@ -14,21 +18,79 @@ fn main() -> ExitCode {
     let seed: u64 = words.next().and_then(|w| w.parse().ok()).expect("SEED is a number");
     let reader: Vec<String> = words.collect();
     assert!(!reader.is_empty(), "COMMAND is missing");
-    for number in 0..scripts {
-        let script = Maker::new(seed, number).script();
-        if differs(&reader, &script) {
-            report(&reader, cut_down(&reader, script), number);
+    let folder = Folder::new();
+    let mut answers = [0u64; 23];
+    for first in (0..scripts).step_by(BATCH as usize) {
+        let batch: Vec<Vec<u8>> = (first..scripts.min(first + BATCH)).map(|number| Maker::new(seed, number).script()).collect();
+        let expected: Vec<String> = batch.iter().map(|script| reference::script::run(script)).collect();
+        count(&expected, &mut answers);
+        let one = (first / BATCH) as usize % batch.len();
+        if differs(&reader, &batch[one]) || proved_files(&reader, &folder.0, &batch) != expected.concat().into_bytes() {
+            report_first(&reader, batch, first);
             return ExitCode::FAILURE;
         }
     }
-    println!("differential: {scripts} scripts of seed {seed}, no difference");
+    println!("differential: {scripts} scripts of seed {seed}, no difference; answers {}", counted(&answers));
     ExitCode::SUCCESS
+}
+
+/// A folder for the scripts of a batch, removed at the end.
+struct Folder(PathBuf);
+
+impl Folder {
+    fn new() -> Folder {
+        let folder = std::env::temp_dir().join(format!("differential-{}", std::process::id()));
+        std::fs::create_dir(&folder).expect("a folder for scripts can be made");
+        Folder(folder)
+    }
+}
+
+impl Drop for Folder {
+    fn drop(&mut self) {
+        let _ = std::fs::remove_dir_all(&self.0);
+    }
+}
+
+/// Counts the lines of each answer; the lines of a listing begin with a letter.
+fn count(outputs: &[String], answers: &mut [u64; 23]) {
+    for line in outputs.iter().flat_map(|output| output.lines()) {
+        let number = line.split(' ').next().and_then(|word| word.parse::<usize>().ok());
+        if let Some(number) = number {
+            answers[number] += 1;
+        }
+    }
+}
+
+fn counted(answers: &[u64; 23]) -> String {
+    let some = answers.iter().enumerate().filter(|(_, times)| **times > 0);
+    some.map(|(number, times)| format!("{number}:{times}")).collect::<Vec<_>>().join(" ")
+}
+
+/// What the proved reader prints for scripts in files.
+fn proved_files(reader: &[String], folder: &Path, batch: &[Vec<u8>]) -> Vec<u8> {
+    let names: Vec<PathBuf> = (0..batch.len()).map(|n| folder.join(n.to_string())).collect();
+    for (name, script) in names.iter().zip(batch) {
+        std::fs::write(name, script).expect("a script is written");
+    }
+    Command::new(&reader[0]).args(&reader[1..]).args(names).output().expect("the reader runs").stdout
+}
+
+/// The first script of a batch that differs, cut down; or, if each by itself does not, the batch.
+fn report_first(reader: &[String], batch: Vec<Vec<u8>>, first: u64) {
+    for (script, number) in batch.into_iter().zip(first..) {
+        if differs(reader, &script) {
+            report(reader, cut_down(reader, script), number);
+            return;
+        }
+    }
+    println!("differential: the scripts from {first} on differ as files, and none of them on standard input");
 }
 
 fn differs(reader: &[String], script: &[u8]) -> bool {
     proved(reader, script) != reference::script::run(script).into_bytes()
 }
 
+/// What the proved reader prints for a script on standard input.
 fn proved(reader: &[String], script: &[u8]) -> Vec<u8> {
     let mut child = Command::new(&reader[0])
         .args(&reader[1..])
@@ -83,13 +145,16 @@ struct Maker {
     terminals: u64,
     nonterminals: u64,
     rules: Vec<String>,
+    /// Few scripts have many rules and sets, so that their numbers have three digits.
+    large: bool,
 }
 
 impl Maker {
     fn new(seed: u64, number: u64) -> Maker {
-        let mut maker = Maker { state: seed.wrapping_mul(0x9e37_79b9_7f4a_7c15) ^ number, terminals: 1, nonterminals: 1, rules: Vec::new() };
-        maker.terminals = 1 + maker.below(3);
-        maker.nonterminals = 1 + maker.below(4);
+        let mut maker = Maker { state: seed.wrapping_mul(0x9e37_79b9_7f4a_7c15) ^ number, terminals: 1, nonterminals: 1, rules: Vec::new(), large: false };
+        maker.large = maker.chance(3);
+        maker.terminals = 1 + if maker.large { maker.below(63) } else { maker.below(3) };
+        maker.nonterminals = 1 + if maker.large { maker.below(20) } else { maker.below(4) };
         maker
     }
 
@@ -116,7 +181,8 @@ impl Maker {
         if self.chance(97) {
             self.line(&mut script, Self::new_table);
         }
-        for _ in 0..2 + self.below(6) {
+        let adds = if self.large { 80 + self.below(80) } else { 2 + self.below(6) };
+        for _ in 0..adds {
             self.line(&mut script, Self::add);
         }
         for _ in 0..commands {
@@ -128,6 +194,7 @@ impl Maker {
                 83..=86 => Self::collect,
                 87..=90 => Self::restart,
                 91..=92 => Self::new_table,
+                93 => Self::long,
                 _ => Self::junk,
             };
             self.line(&mut script, command);
@@ -146,6 +213,9 @@ impl Maker {
     fn new_table(&mut self) -> Vec<u8> {
         if self.chance(10) {
             return b"N".to_vec();
+        }
+        if self.large && self.chance(90) {
+            return b"N 128 128 1024".to_vec();
         }
         let sets = if self.chance(5) { self.below(300) } else { 1 + self.below(16) };
         let rules = if self.chance(5) { self.below(300) } else { 1 + self.below(8) };
@@ -198,6 +268,9 @@ impl Maker {
     }
 
     fn parse(&mut self) -> Vec<u8> {
+        if self.chance(50) {
+            return self.derived();
+        }
         let length = match self.below(100) {
             0..=89 => self.below(7),
             90..=97 => self.below(40),
@@ -211,6 +284,29 @@ impl Maker {
         line
     }
 
+    /// A line that START derives by rules that were added, withdrawn ones among them, if a few steps lead to one.
+    fn derived(&mut self) -> Vec<u8> {
+        let mut form = vec![64];
+        for _ in 0..30 {
+            let Some(at) = form.iter().position(|&x| x >= 64) else { break };
+            let right = self.right_of(form[at]);
+            form.splice(at..at + 1, right);
+        }
+        let tokens = form.iter().filter(|&&x| x < 64).take(255);
+        let line: String = tokens.map(|x| format!(" {x}")).collect();
+        format!("P{line}").into_bytes()
+    }
+
+    /// A right side that was added for a symbol, empty if there is none.
+    fn right_of(&mut self, left: u64) -> Vec<u64> {
+        let numbers = |rule: &String| rule.split(' ').map(|word| word.parse().expect("a rule is numbers")).collect::<Vec<u64>>();
+        let rights: Vec<Vec<u64>> = self.rules.iter().map(numbers).filter(|rule| rule[0] == left).map(|rule| rule[1..].to_vec()).collect();
+        if rights.is_empty() {
+            return Vec::new();
+        }
+        rights[self.below(rights.len() as u64) as usize].clone()
+    }
+
     fn list(&mut self) -> Vec<u8> {
         b"L".to_vec()
     }
@@ -221,6 +317,22 @@ impl Maker {
 
     fn restart(&mut self) -> Vec<u8> {
         b"R".to_vec()
+    }
+
+    /// A line about as long as a good one can be, or longer, or longer than what is read at once; good but for its length.
+    fn long(&mut self) -> Vec<u8> {
+        let length = match self.below(100) {
+            0..=59 => 1270 + self.below(30),
+            60..=89 => self.below(5000),
+            _ => 60_000 + self.below(20_000),
+        };
+        let number = ["0", "1", "63", "255", "9999"][self.below(5) as usize];
+        let mut line = if self.chance(50) { b"P".to_vec() } else { b"A 65".to_vec() };
+        while line.len() < length as usize {
+            line.extend(format!(" {number}").into_bytes());
+        }
+        line.truncate(length as usize);
+        line
     }
 
     /// A good line with a byte changed, dropped or put in; or bytes out of the air.

@@ -1,33 +1,23 @@
+-- `collect` meets its contract. Assumes nothing.
 use Rattle.desk.proofs.InUse.{collect-said}
-use borrow.Author.Needs.{needs}
 use Rattle.desk.proofs.calls.collect.Statement.{statement}
 use Rattle.desk.proofs.calls.collect.Tie as tie
-use Rattle.desk.proofs.calls.collect.Reads as reads
-use Rattle.desk.proofs.calls.collect.Lts as lts
-use Rattle.desk.proofs.calls.sets_in_use.Reads as sets-in-use-reads
-use Rattle.generator.proofs.collect.Reads as collect-reads
 
--- src/calls.rt:148:9
 collect-requires : tie.Need-collect-requires
-collect-requires c κs = search needs
+collect-requires c κs = tt
 
--- src/calls.rt:149:28
 sets-in-use-requires : tie.Need-sets-in-use-requires
-sets-in-use-requires c κs = search needs
+sets-in-use-requires c κs = tt
 
--- src/calls.rt:142:1
 same-length : tie.Need-same-length
-same-length c = search needs
+same-length c = c .before .before .before .before .before .before .before .before .before .collect .kept .0
 
--- src/calls.rt:142:1
 same-length-2 : tie.Need-same-length-2
-same-length-2 c = search needs
+same-length-2 c = c .before .before .before .before .before .before .before .before .before .collect .kept .1 .0
 
--- src/calls.rt:142:1
 same-length-3 : tie.Need-same-length-3
-same-length-3 c = search needs
+same-length-3 c = c .before .before .before .before .before .before .before .before .before .collect .kept .1 .1 .0
 
--- src/calls.rt:142:1
 returns : tie.Need-returns
 returns c = let p = c .before .before .before .before .before .before .before .before .before .collect .ensures in let u = c .sets-in-use .ensures in (u .few, record { answer = _; promised = p; printed = collect-said p u })
 

@@ -1,19 +1,14 @@
+-- `is_here` meets its contract. Assumes nothing.
 use Rattle.desk.proofs.Made.{too-many-sets, too-many-rules, by-links}
-use borrow.Author.Needs.{needs}
 use Rattle.desk.proofs.calls.is_here.Statement.{statement}
 use Rattle.desk.proofs.calls.is_here.Tie as tie
-use Rattle.desk.proofs.calls.is_here.Reads as reads
-use Rattle.desk.proofs.calls.is_here.Lts as lts
 
--- src/calls.rt:62:9
 returns : tie.Need-returns
 returns c = too-many-sets _ _ (c .if1 .taken)
 
--- src/calls.rt:65:9
 returns-2 : tie.Need-returns-2
 returns-2 c = too-many-rules _ (c .before .if1 .left) (c .if2 .taken)
 
--- src/calls.rt:58:1
 returns-3 : tie.Need-returns-3
 returns-3 c = by-links _ (c .before .if1 .left) (c .if2 .left)
 

@@ -1,44 +1,31 @@
+-- `new` meets its contract. Assumes nothing.
 use mathlib.Core.Path.{sym, _∙_}
 use borrow.Author.Tests.{not-true, not-false}
 use Rattle.desk.proofs.Made.{refused-here, made-here}
-use borrow.Author.Needs.{needs}
 use Rattle.desk.proofs.calls.new.Statement.{statement}
 use Rattle.desk.proofs.calls.new.Tie as tie
-use Rattle.desk.proofs.calls.new.Reads as reads
-use Rattle.desk.proofs.calls.new.Lts as lts
-use Rattle.desk.proofs.calls.is_here.Reads as is-here-reads
-use Rattle.desk.proofs.calls.pool_after.Reads as pool-after-reads
-use Rattle.generator.proofs.new.Reads as new-reads
 
--- src/calls.rt:44:9
 is-here-requires : tie.Need-is-here-requires
-is-here-requires c κs = search needs
+is-here-requires c κs = tt
 
--- src/calls.rt:45:9
 returns : tie.Need-returns
 returns c = λ b. refused-here b (sym (c .before .is-here .ensures) ∙ not-true (c .before .is-here .result) (c .if1 .taken))
 
--- src/calls.rt:50:9
 new-requires : tie.Need-new-requires
-new-requires c κs = search needs
+new-requires c κs = tt
 
--- src/calls.rt:53:15
 pool-after-requires : tie.Need-pool-after-requires
-pool-after-requires c κs = search needs
+pool-after-requires c κs = tt
 
--- src/calls.rt:32:1
 same-length : tie.Need-same-length
-same-length c = search needs
+same-length c = c .before .before .before .before .before .before .before .new .kept .0
 
--- src/calls.rt:32:1
 same-length-2 : tie.Need-same-length-2
-same-length-2 c = search needs
+same-length-2 c = c .before .before .before .before .before .before .before .new .kept .1 .0
 
--- src/calls.rt:32:1
 same-length-3 : tie.Need-same-length-3
-same-length-3 c = search needs
+same-length-3 c = c .before .before .before .before .before .before .before .new .kept .1 .1 .0
 
--- src/calls.rt:32:1
 returns-2 : tie.Need-returns-2
 returns-2 c = λ b. made-here b (sym (c .before .before .before .before .before .before .before .before .before .before .before .before .is-here .ensures) ∙ not-false (c .before .before .before .before .before .before .before .before .before .before .before .before .is-here .result) (c .before .before .before .before .before .before .before .before .before .before .before .if1 .left)) (c .before .before .before .before .before .before .before .new .ensures) (c .pool-after .ensures)
 

@@ -1,22 +1,16 @@
+-- `pool_after` meets its contract. Assumes nothing.
 use mathlib.Core.Path.{refl, sym, _∙_}
 use borrow.Author.Tests.{eq-eqb, ne-eqb}
 use Rattle.laws.proofs.Choice.{when-yes, when-no}
-use borrow.Author.Needs.{needs}
 use Rattle.desk.proofs.calls.pool_after.Statement.{statement}
 use Rattle.desk.proofs.calls.pool_after.Tie as tie
-use Rattle.desk.proofs.calls.pool_after.Reads as reads
-use Rattle.desk.proofs.calls.pool_after.Lts as lts
-use Rattle.symbols.proofs.answer.Answer.number.Reads as number-reads
 
--- src/calls.rt:74:8
 number-requires : tie.Need-number-requires
-number-requires c κs = search needs
+number-requires c κs = tt
 
--- src/calls.rt:75:9
 returns : tie.Need-returns
 returns c = when-yes _ (eq-eqb _ 0 (sym (c .before .number .ensures) ∙ c .if1 .taken)) refl
 
--- src/calls.rt:71:1
 returns-2 : tie.Need-returns-2
 returns-2 c = when-no _ (ne-eqb _ 0 (λ z. c .if1 .left (c .before .number .ensures ∙ z))) refl
 

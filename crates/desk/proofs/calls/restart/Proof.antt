@@ -1,33 +1,23 @@
+-- `restart` meets its contract. Assumes nothing.
 use Rattle.desk.proofs.InUse.{collect-said}
-use borrow.Author.Needs.{needs}
 use Rattle.desk.proofs.calls.restart.Statement.{statement}
 use Rattle.desk.proofs.calls.restart.Tie as tie
-use Rattle.desk.proofs.calls.restart.Reads as reads
-use Rattle.desk.proofs.calls.restart.Lts as lts
-use Rattle.desk.proofs.calls.sets_in_use.Reads as sets-in-use-reads
-use Rattle.generator.proofs.restart.Reads as restart-reads
 
--- src/calls.rt:159:9
 restart-requires : tie.Need-restart-requires
-restart-requires c κs = search needs
+restart-requires c κs = tt
 
--- src/calls.rt:160:28
 sets-in-use-requires : tie.Need-sets-in-use-requires
-sets-in-use-requires c κs = search needs
+sets-in-use-requires c κs = tt
 
--- src/calls.rt:153:1
 same-length : tie.Need-same-length
-same-length c = search needs
+same-length c = c .before .before .before .before .before .before .before .before .before .restart .kept .0
 
--- src/calls.rt:153:1
 same-length-2 : tie.Need-same-length-2
-same-length-2 c = search needs
+same-length-2 c = c .before .before .before .before .before .before .before .before .before .restart .kept .1 .0
 
--- src/calls.rt:153:1
 same-length-3 : tie.Need-same-length-3
-same-length-3 c = search needs
+same-length-3 c = c .before .before .before .before .before .before .before .before .before .restart .kept .1 .1 .0
 
--- src/calls.rt:153:1
 returns : tie.Need-returns
 returns c = let p = c .before .before .before .before .before .before .before .before .before .restart .ensures in let u = c .sets-in-use .ensures in (u .few, record { answer = _; promised = p; printed = collect-said p u })
 

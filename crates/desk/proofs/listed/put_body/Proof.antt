@@ -1,55 +1,42 @@
-use Prim.Native.Nat.{_+_, _-_}
+-- `put_body` meets its contract. Assumes nothing.
 use mathlib.Core.Path.{refl}
+use Prim.Native.Nat.{_+_, _-_}
 use native.Mathlib.Omega.{arith}
+use borrow.Author.Needs.{needs}
 use Rattle.laws.proofs.Choice.{when-yes, when-no}
 use Rattle.script.proofs.Putting.{puts-none, puts-as}
 use Rattle.listing.proofs.Walks.{not-used, is-used}
 use Rattle.desk.proofs.Parts.{part-room, puts-part}
-use borrow.Author.Needs.{needs}
 use Rattle.desk.proofs.listed.put_body.Statement.{statement}
 use Rattle.desk.proofs.listed.put_body.Tie as tie
-use Rattle.desk.proofs.listed.put_body.Reads as reads
-use Rattle.desk.proofs.listed.put_body.Lts as lts
-use Rattle.listing.proofs.body.Reads as body-reads
-use Rattle.table.proofs.mark.Reads as mark-reads
 
--- src/listed.rt:44:8
 mark-requires : tie.Need-mark-requires
 mark-requires c κs = search needs
 
--- src/listed.rt:45:9
 returns : tie.Need-returns
 returns c = (omega arith, puts-as (when-no _ (not-used (c .before .mark .ensures) (c .if1 .taken)) refl) (puts-none _ _))
 
--- src/listed.rt:47:16
 add-room : tie.Need-add-room
 add-room c = search needs
 
--- src/listed.rt:48:41
 sub-body : tie.Need-sub-body
 sub-body c = search needs
 
--- src/listed.rt:48:41
 part-body-start : tie.Need-part-body-start
 part-body-start c = search needs
 
--- src/listed.rt:48:41
 part-body-end : tie.Need-part-body-end
 part-body-end c = search needs
 
--- src/listed.rt:48:10
 body-requires : tie.Need-body-requires
 body-requires c κs = search needs
 
--- src/listed.rt:48:5
 add-result : tie.Need-add-result
 add-result c = omega (arith, c .before .before .before .before .before .before .before .before .before .before .pre .1, part-room (c .before .before .before .before .before .before .before .before .before .before .args .out .now) (c .before .before .before .before .before .before .before .before .before .before .args .at) (c .before .before .before .before .before .before .before .before .before .before .args .at + 8192 - c .before .before .before .before .before .before .before .before .before .before .args .at) (omega (arith, c .before .before .before .before .before .before .before .before .before .before .pre .1)) (c .before .before .body .kept .1 .1 .1 .0) (c .before .before .body .ensures (c .before .before .before .before .before .before .before .before .before .before .args .rules .now) (c .before .before .before .before .before .before .before .before .before .before .pre .0) (c .before .before .before .before .before .before .before .before .before .before .pre .1 .0)))
 
--- src/listed.rt:31:1
 same-length : tie.Need-same-length
 same-length c = search needs
 
--- src/listed.rt:31:1
 returns-2 : tie.Need-returns-2
 returns-2 c = let room = part-room (c .before .before .before .before .before .before .before .before .before .before .args .out .now) (c .before .before .before .before .before .before .before .before .before .before .args .at) (c .before .before .before .before .before .before .before .before .before .before .args .at + 8192 - c .before .before .before .before .before .before .before .before .before .before .args .at) (omega (arith, c .before .before .before .before .before .before .before .before .before .before .pre .1)) (c .before .before .body .kept .1 .1 .1 .0) (c .before .before .body .ensures (c .before .before .before .before .before .before .before .before .before .before .args .rules .now) (c .before .before .before .before .before .before .before .before .before .before .pre .0) (c .before .before .before .before .before .before .before .before .before .before .pre .1 .0)) in
     let put = puts-part (c .before .before .before .before .before .before .before .before .before .before .args .out .now) (c .before .before .before .before .before .before .before .before .before .before .args .at) (c .before .before .before .before .before .before .before .before .before .before .args .at + 8192 - c .before .before .before .before .before .before .before .before .before .before .args .at) (omega (arith, c .before .before .before .before .before .before .before .before .before .before .pre .1)) (c .before .before .body .kept .1 .1 .1 .0) (c .before .before .body .ensures (c .before .before .before .before .before .before .before .before .before .before .args .rules .now) (c .before .before .before .before .before .before .before .before .before .before .pre .0) (c .before .before .before .before .before .before .before .before .before .before .pre .1 .0)) in

@@ -1,44 +1,34 @@
+-- `put_contents` meets its contract. Assumes nothing.
 use mathlib.Core.Path.{refl}
 use mathlib.Core.List.{[], _∷_}
 use Prim.Native.Nat.{_+_, _-_}
 use native.Mathlib.Omega.{arith}
-use Rattle.desk.proofs.Parts.{part-room, puts-part}
 use borrow.Author.Needs.{needs}
+use Rattle.desk.proofs.Parts.{part-room, puts-part}
 use Rattle.desk.proofs.listed.put_contents.Statement.{statement}
 use Rattle.desk.proofs.listed.put_contents.Tie as tie
-use Rattle.desk.proofs.listed.put_contents.Reads as reads
-use Rattle.desk.proofs.listed.put_contents.Lts as lts
-use Rattle.listing.proofs.contents.Reads as contents-reads
 
--- src/listed.rt:36:16
 add-room : tie.Need-add-room
 add-room c = search needs
 
--- src/listed.rt:37:41
 sub-contents : tie.Need-sub-contents
 sub-contents c = search needs
 
--- src/listed.rt:37:41
 part-contents-start : tie.Need-part-contents-start
 part-contents-start c = search needs
 
--- src/listed.rt:37:41
 part-contents-end : tie.Need-part-contents-end
 part-contents-end c = search needs
 
--- src/listed.rt:37:10
 contents-requires : tie.Need-contents-requires
 contents-requires c κs = search needs
 
--- src/listed.rt:37:5
 add-result : tie.Need-add-result
 add-result c = omega (arith, c .before .before .before .before .before .before .pre, part-room (c .before .before .before .before .before .before .args .out .now) (c .before .before .before .before .before .before .args .at) (c .before .before .before .before .before .before .args .at + 8192 - c .before .before .before .before .before .before .args .at) (omega (arith, c .before .before .before .before .before .before .pre)) (c .before .before .contents .kept .1 .1 .0) (c .before .before .contents .ensures (c .before .before .before .before .before .before .args .sets ∷ []) [] refl))
 
--- src/listed.rt:31:1
 same-length : tie.Need-same-length
 same-length c = search needs
 
--- src/listed.rt:31:1
 returns : tie.Need-returns
 returns c = let n = part-room (c .before .before .before .before .before .before .args .out .now) (c .before .before .before .before .before .before .args .at) (c .before .before .before .before .before .before .args .at + 8192 - c .before .before .before .before .before .before .args .at) (omega (arith, c .before .before .before .before .before .before .pre)) (c .before .before .contents .kept .1 .1 .0) (c .before .before .contents .ensures (c .before .before .before .before .before .before .args .sets ∷ []) [] refl) in
     (omega arith, λ rules words e. puts-part (c .before .before .before .before .before .before .args .out .now) (c .before .before .before .before .before .before .args .at) (c .before .before .before .before .before .before .args .at + 8192 - c .before .before .before .before .before .before .args .at) (omega (arith, c .before .before .before .before .before .before .pre)) (c .before .before .contents .kept .1 .1 .0) (c .before .before .contents .ensures rules words e))

@@ -3,8 +3,7 @@
 // The text that was read and not yet run stands at the beginning of a buffer, and more is read behind it. Its lines are run
 // where they stand, and the rest, the beginning of a line, is moved to the front. Of a rest longer than any good line only so
 // much is kept that it stays too long: the line is malformed whatever follows, so a script of any length goes through.
-use super::obey::answer;
-use super::reply::ROOM;
+use desk::ROOM;
 use libc::STDOUT_FILENO;
 ghost use mathlib.Core.Path.{_≡_};
 ghost use Prim.Native.Nat.{_+_, _≤_};
@@ -13,54 +12,56 @@ ghost use lib.ListN.{length};
 // The longest line that can be good: a letter and 256 numbers of four digits, each after a space.
 const LONGEST: usize = 1281;
 
-// What is kept from line to line, beside the table: the size of the link pool, and how many bytes of the output buffer wait to
+const OUTPUT: usize = ROOM + 65536;
+
+// What is kept from line to line beside the numbers: the size of the link pool, and how many bytes of the output buffer wait to
 // be written out.
-struct Desk {
+struct Kept {
     pool: usize,
     used: usize,
 }
 
-// What was run of a text: the place after its last newline, and the desk then.
+// What is left when the lines of a text are run: the place after the last newline, and what is kept then.
 struct Ran {
     at: usize,
-    desk: Desk,
+    kept: Kept,
 }
 
 // Runs the script that fd brings, to its end.
 pub fn run(fd: i32, name: &[u8]) {
-    let mut rules_space = [0u8; 1282];
+    let mut rules_space = [0u8; desk::RULES];
     let rules: &mut [u8] = &mut rules_space;
-    let mut cells_space = [0u8; 16384];
+    let mut cells_space = [0u8; desk::CELLS];
     let cells: &mut [u8] = &mut cells_space;
-    let mut words_space = [0u64; 2304];
+    let mut words_space = [0u64; desk::WORDS];
     let words: &mut [u64] = &mut words_space;
-    let mut links_space = [0u16; 6150];
+    let mut links_space = [0u16; desk::LINKS];
     let links: &mut [u16] = &mut links_space;
-    let mut out_space = room();
+    let mut out_space = output();
     let out: &mut [u8] = &mut out_space;
     let mut text_space = io::large_buffer();
     let text: &mut [u8] = &mut text_space;
-    let mut desk = Desk { pool: 0, used: 0 };
+    let mut kept = Kept { pool: 0, used: 0 };
     let mut held: usize = 0;
     let mut end = fill(fd, name, text, 0);
     // a proved loop has to end, and nothing says that a file does: it counts its turns down from a number that no run uses up
     let mut turns = u64::MAX;
     while turns > 0 && held < end {
-        let ran = run_lines(text, end, rules, cells, words, links, out, desk);
-        desk = flush(out, ran.desk);
+        let ran = run_lines(text, end, rules, cells, words, links, out, kept);
+        kept = flush(out, ran.kept);
         held = keep_rest(text, ran.at, end);
         end = held + fill(fd, name, text, held);
         turns -= 1;
     }
-    let done = run_last(text, held, rules, cells, words, links, out, desk);
+    let done = run_last(text, held, rules, cells, words, links, out, kept);
     flush(out, done);
 }
 
-// Zeros, as many as any reply may need.
-fn room() -> [u8; ROOM]
-    ensures { λ r. ⌜ 1056768 ≡ length r ⌝ }
+// Zeros for the output: room for any line's text behind 65,536 bytes that wait.
+fn output() -> [u8; OUTPUT]
+    ensures { λ r. ⌜ 1122304 ≡ length r ⌝ }
 {
-    [0; ROOM]
+    [0; OUTPUT]
 }
 
 // Reads on, behind the bytes that are held: answers how many came, 0 at the end of the script and where the reading fails,
@@ -106,12 +107,12 @@ fn run_lines(
     words: &mut [u64],
     links: &mut [u16],
     out: &mut [u8],
-    desk: Desk,
+    kept: Kept,
 ) -> Ran
-    requires { ⌜ (n ≤ length (now text)) × (length (now cells) ≤ 16384) × (1056768 ≤ length (now out)) ⌝ }
-    ensures { λ r. ⌜ r .at ≤ n ⌝ }
+    requires { ⌜ (n ≤ length (now text)) × (length (now cells) ≤ 16384) × (1056768 ≤ length (now out)) × (kept .used ≤ length (now out)) ⌝ }
+    ensures { λ r. ⌜ (r .at ≤ n) × (r .kept .used ≤ length (now (out .entry))) ⌝ }
 {
-    let mut now = desk;
+    let mut now = kept;
     let mut at: usize = 0;
     let mut end = bytes::scan::find(text, at, n, b'\n');
     while end < n {
@@ -119,7 +120,7 @@ fn run_lines(
         at = end + 1;
         end = bytes::scan::find(text, at, n, b'\n');
     }
-    Ran { at, desk: now }
+    Ran { at, kept: now }
 }
 
 // Runs the last line, the first n bytes of the text, if the script does not end with a newline.
@@ -131,14 +132,15 @@ fn run_last(
     words: &mut [u64],
     links: &mut [u16],
     out: &mut [u8],
-    desk: Desk,
-) -> Desk
-    requires { ⌜ (n ≤ length (now text)) × (length (now cells) ≤ 16384) × (1056768 ≤ length (now out)) ⌝ }
+    kept: Kept,
+) -> Kept
+    requires { ⌜ (n ≤ length (now text)) × (length (now cells) ≤ 16384) × (1056768 ≤ length (now out)) × (kept .used ≤ length (now out)) ⌝ }
+    ensures { λ r. ⌜ r .used ≤ length (now (out .entry)) ⌝ }
 {
     if n == 0 {
-        return desk;
+        return kept;
     }
-    run_line(&text[..n], rules, cells, words, links, out, desk)
+    run_line(&text[..n], rules, cells, words, links, out, kept)
 }
 
 // Runs a line without its newline.
@@ -149,39 +151,42 @@ fn run_line(
     words: &mut [u64],
     links: &mut [u16],
     out: &mut [u8],
-    desk: Desk,
-) -> Desk
-    requires { ⌜ (length (now cells) ≤ 16384) × (1056768 ≤ length (now out)) ⌝ }
+    kept: Kept,
+) -> Kept
+    requires { ⌜ (length (now cells) ≤ 16384) × (1056768 ≤ length (now out)) × (kept .used ≤ length (now out)) ⌝ }
+    ensures { λ r. ⌜ r .used ≤ length (now (out .entry)) ⌝ }
 {
-    let ready = with_room(out, desk);
+    let ready = with_room(out, kept);
     let used = ready.used;
-    let done = answer(line, rules, cells, words, links, out, ready.pool, used);
-    Desk {
+    let done = desk::answer(line, rules, cells, words, links, out, ready.pool, used);
+    Kept {
         pool: done.pool,
         used: done.end,
     }
 }
 
-// The desk with room for a reply: what waits is written out, unless there is room behind it.
-fn with_room(out: &[u8], desk: Desk) -> Desk
-    requires { ⌜ 1056768 ≤ length (now out) ⌝ }
+// Makes room for a line's text: what waits is written out, unless there is room behind it.
+fn with_room(out: &[u8], kept: Kept) -> Kept
+    requires { ⌜ (1056768 ≤ length (now out)) × (kept .used ≤ length (now out)) ⌝ }
     ensures { λ r. ⌜ r .used + 1056768 ≤ length (now (out .entry)) ⌝ }
 {
-    let used = desk.used;
+    let used = kept.used;
     if used <= out.len() - ROOM {
-        return desk;
+        return kept;
     }
-    flush(out, desk)
+    flush(out, kept)
 }
 
-// Writes out what waits.
-fn flush(out: &[u8], desk: Desk) -> Desk
-    ensures { λ r. ⌜ r .used ≡ 0 ⌝ }
+// Writes out what waits. A write that fails is said on standard error.
+fn flush(out: &[u8], kept: Kept) -> Kept
+    requires { ⌜ kept .used ≤ length (now out) ⌝ }
+    ensures { λ r. ⌜ (r .used ≡ 0) × (r .pool ≡ kept .pool) ⌝ }
 {
-    let used = desk.used;
-    if used <= out.len() {
-        io::write_all(STDOUT_FILENO, &out[..used]);
+    let used = kept.used;
+    let is_written = io::write_all(STDOUT_FILENO, &out[..used]);
+    if !is_written {
+        os::fail(b"standard output");
     }
-    let pool = desk.pool;
-    Desk { pool, used: 0 }
+    let pool = kept.pool;
+    Kept { pool, used: 0 }
 }

@@ -1,12 +1,10 @@
+-- `keep_rest` meets its contract. Assumes nothing.
 use mathlib.Core.Path.{_≡_}
 use Prim.Native.Nat.{_-_, _≤_}
 use lib.ListN.{length}
 use borrow.Author.Needs.{needs}
-use Rattle.desk.proofs.lines.keep_rest.Statement.{statement}
-use Rattle.desk.proofs.lines.keep_rest.Tie as tie
-use Rattle.desk.proofs.lines.keep_rest.Reads as reads
-use Rattle.desk.proofs.lines.keep_rest.Lts as lts
-use Rattle.desk.proofs.lines.least.Reads as least-reads
+use Rattle.scripts.proofs.lines.keep_rest.Statement.{statement}
+use Rattle.scripts.proofs.lines.keep_rest.Tie as tie
 
 abbrev Inv-loop : tie.InvT-loop
 Inv-loop text₀ at end n i₀ text i = (i ≤ n) × (length text ≡ length text₀)
@@ -14,51 +12,39 @@ Inv-loop text₀ at end n i₀ text i = (i ≤ n) × (length text ≡ length tex
 abbrev μ-loop : tie.MeasureT-loop
 μ-loop text₀ at end n i₀ text i = n - i
 
--- src/lines.rt:80:19
 sub-least : tie.Need-sub-least Inv-loop μ-loop
 sub-least c = search needs
 
--- src/lines.rt:80:29
 add-least : tie.Need-add-least Inv-loop μ-loop
 add-least c = search needs
 
--- src/lines.rt:80:9
 least-requires : tie.Need-least-requires Inv-loop μ-loop
 least-requires c κs = search needs
 
--- src/lines.rt:82:5
 loop-holds : tie.Need-loop-holds Inv-loop μ-loop
 loop-holds c = search needs
 
--- src/lines.rt:83:24
 add-text : tie.Need-add-text Inv-loop μ-loop
 add-text c = search needs
 
--- src/lines.rt:83:19
 slice-read-text : tie.Need-slice-read-text Inv-loop μ-loop
 slice-read-text c = search needs
 
--- src/lines.rt:83:9
 slice-write-text : tie.Need-slice-write-text Inv-loop μ-loop
 slice-write-text c = search needs
 
--- src/lines.rt:84:9
 add-i : tie.Need-add-i Inv-loop μ-loop
 add-i c = search needs
 
--- src/lines.rt:82:5
 loop-less : tie.Need-loop-less Inv-loop μ-loop
 loop-less c = search needs
 
--- src/lines.rt:82:5
 loop-again : tie.Need-loop-again Inv-loop μ-loop
 loop-again c = search needs
 
--- src/lines.rt:76:1
 same-length : tie.Need-same-length Inv-loop μ-loop
 same-length c = search needs
 
--- src/lines.rt:76:1
 returns : tie.Need-returns Inv-loop μ-loop
 returns c = search needs
 

@@ -1,0 +1,43 @@
+-- `run_line` meets its contract. Assumes nothing.
+use native.Mathlib.Omega.{arith}
+use borrow.Author.Needs.{needs}
+use Rattle.scripts.proofs.Inside.{puts-inside}
+use Rattle.scripts.proofs.lines.run_line.Statement.{statement}
+use Rattle.scripts.proofs.lines.run_line.Tie as tie
+
+with-room-requires : tie.Need-with-room-requires
+with-room-requires c κs = search needs
+
+answer-requires : tie.Need-answer-requires
+answer-requires c κs = search needs
+
+same-length : tie.Need-same-length
+same-length c = search needs
+
+same-length-2 : tie.Need-same-length-2
+same-length-2 c = search needs
+
+same-length-3 : tie.Need-same-length-3
+same-length-3 c = search needs
+
+same-length-4 : tie.Need-same-length-4
+same-length-4 c = search needs
+
+same-length-5 : tie.Need-same-length-5
+same-length-5 c = search needs
+
+returns : tie.Need-returns
+returns c = let inside = puts-inside (c .before .before .before .before .before .before .before .before .before .before .answer .ensures .puts) (omega (arith, c .before .before .before .before .before .before .before .before .before .before .before .before .before .before .before .before .with-room .ensures)) in omega (arith, inside, c .before .before .before .before .before .before .before .before .before .before .answer .kept .1 .1 .1 .1 .1 .0)
+
+pub run-line-spec : {M : Type 1} → statement M
+run-line-spec =
+    tie.close
+    (tie.spec
+    with-room-requires
+    answer-requires
+    same-length
+    same-length-2
+    same-length-3
+    same-length-4
+    same-length-5
+    returns)
