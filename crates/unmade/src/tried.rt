@@ -1,0 +1,223 @@
+// Every call on a table, each on a copy of its own; prints the line.
+use super::base;
+
+// Writes the numbers over the made table and tries every call on it.
+pub fn case(name: &[u8], numbers: &[usize]) {
+    let mut rules = [7u8; base::RULES];
+    let mut cells = [7u8; base::CELLS];
+    let mut words = [7u64; base::WORDS];
+    base::make(&mut rules, &mut cells, &mut words);
+    base::write_over(&mut rules, &mut cells, &mut words, numbers);
+    io::write_all(1, name);
+    try_formed(&rules, &cells, &words);
+    try_new(rules, cells, words);
+    try_add(rules, cells, words);
+    try_delete(rules, cells, words);
+    try_collect(rules, cells, words);
+    try_restart(rules, cells, words);
+    try_parse(rules, cells, words, &[1]);
+    try_parse(rules, cells, words, &[1, 1]);
+    io::write_all(1, b"\n");
+}
+
+fn try_formed(rules: &[u8], cells: &[u8], words: &[u64]) {
+    io::write_all(1, b": F ");
+    if form::is_formed(rules, cells, words) {
+        io::write_all(1, b"1");
+        return;
+    }
+    io::write_all(1, b"0");
+}
+
+fn try_new(rules: [u8; base::RULES], cells: [u8; base::CELLS], words: [u64; base::WORDS]) {
+    let mut r = rules;
+    let mut c = cells;
+    let mut w = words;
+    let answer = generator::new(&mut r, &mut c, &mut w, 2, 3);
+    print_call(b" N", answer.number());
+    print_left(rules, cells, words, r, c, w);
+}
+
+// 64 -> 2: a START rule, so that set 0's kernel changes.
+fn try_add(rules: [u8; base::RULES], cells: [u8; base::CELLS], words: [u64; base::WORDS]) {
+    let mut r = rules;
+    let mut c = cells;
+    let mut w = words;
+    let changed = generator::add(&mut r, &mut c, &mut w, 64, &[2]);
+    let answer = changed.answer;
+    print_call(b" A", answer.number());
+    print_number(changed.rule);
+    print_left(rules, cells, words, r, c, w);
+}
+
+// 65 -> 1.
+fn try_delete(rules: [u8; base::RULES], cells: [u8; base::CELLS], words: [u64; base::WORDS]) {
+    let mut r = rules;
+    let mut c = cells;
+    let mut w = words;
+    let changed = generator::delete(&mut r, &mut c, &mut w, 65, &[1]);
+    let answer = changed.answer;
+    print_call(b" D", answer.number());
+    print_number(changed.rule);
+    print_left(rules, cells, words, r, c, w);
+}
+
+fn try_collect(rules: [u8; base::RULES], cells: [u8; base::CELLS], words: [u64; base::WORDS]) {
+    let mut r = rules;
+    let mut c = cells;
+    let mut w = words;
+    let answer = generator::collect(&mut r, &mut c, &mut w);
+    print_call(b" G", answer.number());
+    print_left(rules, cells, words, r, c, w);
+}
+
+fn try_restart(rules: [u8; base::RULES], cells: [u8; base::CELLS], words: [u64; base::WORDS]) {
+    let mut r = rules;
+    let mut c = cells;
+    let mut w = words;
+    let answer = generator::restart(&mut r, &mut c, &mut w);
+    print_call(b" R", answer.number());
+    print_left(rules, cells, words, r, c, w);
+}
+
+// Over a link buffer that is not zero.
+fn try_parse(
+    rules: [u8; base::RULES],
+    cells: [u8; base::CELLS],
+    words: [u64; base::WORDS],
+    line: &[u8],
+) {
+    let mut r = rules;
+    let mut c = cells;
+    let mut w = words;
+    let mut links = [7u16; base::LINKS];
+    let verdict = recogniser::parse(&mut r, &mut c, &mut w, &mut links, base::POOL, line);
+    let answer = verdict.answer;
+    print_call(b" P", answer.number());
+    print_number(verdict.links);
+    print_links(links, answer.number());
+    print_left(rules, cells, words, r, c, w);
+}
+
+// ` G 0`
+fn print_call(name: &[u8], answer: u8) {
+    io::write_all(1, name);
+    print_number(answer as usize);
+}
+
+fn print_number(n: usize) {
+    io::write_all(1, b" ");
+    io::print_decimal(1, n as u64);
+}
+
+// What the call left of the numbers.
+fn print_left(
+    rules: [u8; base::RULES],
+    cells: [u8; base::CELLS],
+    words: [u64; base::WORDS],
+    r: [u8; base::RULES],
+    c: [u8; base::CELLS],
+    w: [u64; base::WORDS],
+) {
+    let sets = r[0];
+    let places = r[1];
+    if !same_beyond(&rules, &cells, &words, &r, &c, &w, sets, places) {
+        io::write_all(1, b"!");
+        return;
+    }
+    if same_bytes(&rules, &r, 0) && same_bytes(&cells, &c, 0) && same_words(&words, &w, 0) {
+        io::write_all(1, b"=");
+        return;
+    }
+    if form::is_formed(&r, &c, &w) {
+        io::write_all(1, b"+");
+        return;
+    }
+    io::write_all(1, b"-");
+    print_next(r, c, w);
+}
+
+// What Collect answers to a table that a call left out of form.
+fn print_next(rules: [u8; base::RULES], cells: [u8; base::CELLS], words: [u64; base::WORDS]) {
+    let mut r = rules;
+    let mut c = cells;
+    let mut w = words;
+    let answer = generator::collect(&mut r, &mut c, &mut w);
+    print_number(answer.number() as usize);
+}
+
+// A refused parse leaves the link buffer as it was, any other leaves the pool's part zero; beyond it nothing is touched.
+fn print_links(links: [u16; base::LINKS], answer: u8) {
+    let end = 6 * (base::POOL + 1);
+    if !all_are(&links, end, base::LINKS, 7) {
+        io::write_all(1, b"!");
+        return;
+    }
+    if 10 <= answer && answer < 20 {
+        print_wrong(all_are(&links, 0, end, 7));
+        return;
+    }
+    print_wrong(all_are(&links, 0, end, 0));
+}
+
+fn print_wrong(right: bool) {
+    if !right {
+        io::write_all(1, b"!");
+    }
+}
+
+// Whether the numbers from `from` to `to` are all x.
+fn all_are(numbers: &[u16], from: usize, to: usize, x: u16) -> bool {
+    let mut i = from;
+    while i < to && i < numbers.len() {
+        if numbers[i] != x {
+            return false;
+        }
+        i += 1;
+    }
+    true
+}
+
+// Whether the numbers beyond the pools of so many sets and places are the same.
+fn same_beyond(
+    rules: &[u8],
+    cells: &[u8],
+    words: &[u64],
+    r: &[u8],
+    c: &[u8],
+    w: &[u64],
+    sets: u8,
+    places: u8,
+) -> bool {
+    if !same_bytes(rules, r, 2 + places as usize * 10) {
+        return false;
+    }
+    if !same_bytes(cells, c, sets as usize * 128) {
+        return false;
+    }
+    same_words(words, w, sets as usize * 18)
+}
+
+// Whether the two have the same bytes from `from` on.
+fn same_bytes(a: &[u8], b: &[u8], from: usize) -> bool {
+    let mut i = from;
+    while i < a.len() && i < b.len() {
+        if a[i] != b[i] {
+            return false;
+        }
+        i += 1;
+    }
+    true
+}
+
+// Whether the two have the same words from `from` on.
+fn same_words(a: &[u64], b: &[u64], from: usize) -> bool {
+    let mut i = from;
+    while i < a.len() && i < b.len() {
+        if a[i] != b[i] {
+            return false;
+        }
+        i += 1;
+    }
+    true
+}
