@@ -27,7 +27,8 @@ use Rattle.table.specs.Layout.{Mem, view}
 use Rattle.table.specs.Laid.{Formed}
 use Rattle.table.specs.Becomes.{Promised}
 use Rattle.form.proofs.Formed.{formed-dec}
-use Rattle.generator.proofs.Promises.{rules-seen, collected-rules}
+use Rattle.table.proofs.Becoming.{rules-seen}
+use Rattle.generator.proofs.Promises.{collected-rules}
 use Rattle.recogniser.specs.Parse.{numbersFor, lentParse, Parses}
 use Rattle.recogniser.specs.declared.Verdict.{Verdict}
 

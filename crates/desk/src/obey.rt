@@ -79,7 +79,7 @@ pub struct Answered {
     pub end: usize,
 }
 
-// Reads a line without its newline, makes its call, and puts its text from `at` on.
+// Reads a line, with its newline if it has one, makes its call, and puts its text from `at` on.
 pub fn answer(
     line: &[u8],
     rules: &mut [u8],

@@ -1,4 +1,4 @@
-// A script's bytes to its lines: what stands before each newline; the last line may lack it.
+// A script's bytes to its lines, each with its newline; the last line may lack it.
 //
 // The text that was read and not yet run stands at the beginning of a buffer, and more is read behind it. Its lines are run
 // where they stand, and the rest, the beginning of a line, is moved to the front. Of a rest longer than any good line only so
@@ -9,8 +9,8 @@ ghost use mathlib.Core.Path.{_≡_};
 ghost use Prim.Native.Nat.{_+_, _≤_};
 ghost use lib.ListN.{length};
 
-// The longest line that can be good: a letter and 256 numbers of four digits, each after a space.
-const LONGEST: usize = 1281;
+// The longest line that can be good: a letter, 256 numbers of four digits, each after a space, and a newline.
+const LONGEST: usize = 1282;
 
 const OUTPUT: usize = ROOM + 65536;
 
@@ -81,7 +81,7 @@ fn fill(fd: i32, name: &[u8], text: &mut [u8], held: usize) -> usize
 // Moves what stands from `at` up to `end` to the front, as much of it as a line's meaning needs, and answers how much.
 fn keep_rest(text: &mut [u8], at: usize, end: usize) -> usize
     requires { ⌜ (at ≤ end) × (end ≤ length (now text)) ⌝ }
-    ensures { λ r. ⌜ r ≤ 1282 ⌝ }
+    ensures { λ r. ⌜ r ≤ 1283 ⌝ }
 {
     let n = least(end - at, LONGEST + 1);
     let mut i: usize = 0;
@@ -116,8 +116,9 @@ fn run_lines(
     let mut at: usize = 0;
     let mut end = bytes::scan::find(text, at, n, b'\n');
     while end < n {
-        now = run_line(&text[at..end], rules, cells, words, links, out, now);
-        at = end + 1;
+        let next = end + 1;
+        now = run_line(&text[at..next], rules, cells, words, links, out, now);
+        at = next;
         end = bytes::scan::find(text, at, n, b'\n');
     }
     Ran { at, kept: now }
@@ -143,7 +144,7 @@ fn run_last(
     run_line(&text[..n], rules, cells, words, links, out, kept)
 }
 
-// Runs a line without its newline.
+// Runs a line.
 fn run_line(
     line: &[u8],
     rules: &mut [u8],

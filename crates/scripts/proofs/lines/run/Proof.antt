@@ -9,7 +9,7 @@ use Rattle.scripts.proofs.lines.run.Tie as tie
 
 abbrev Inv-loop : tie.InvT-loop
 Inv-loop fd name rules₀ cells₀ words₀ links₀ out₀ text₀ kept₀ held₀ end₀ turns₀ rules cells words links out text kept held end turns =
-    (held ≤ 1282) × (end ≤ length text) × (length cells ≤ 16384) × (1056768 ≤ length out) × (length text ≡ 65536) × (kept .used ≤ length out)
+    (held ≤ 1283) × (end ≤ length text) × (length cells ≤ 16384) × (1056768 ≤ length out) × (length text ≡ 65536) × (kept .used ≤ length out)
 
 abbrev μ-loop : tie.MeasureT-loop
 μ-loop fd name rules₀ cells₀ words₀ links₀ out₀ text₀ kept₀ held₀ end₀ turns₀ rules cells words links out text kept held end turns = turns

@@ -21,6 +21,9 @@ find-requires c κs = search needs
 loop-holds : tie.Need-loop-holds Inv-loop μ-loop
 loop-holds c = (omega (arith, c .find .ensures .0), c .find .ensures .1, refl, refl, refl, refl, refl, c .before .before .before .before .before .before .before .pre .3)
 
+add-next : tie.Need-add-next Inv-loop μ-loop
+add-next c = search needs
+
 sub-run-line : tie.Need-sub-run-line Inv-loop μ-loop
 sub-run-line c = search needs
 
@@ -32,9 +35,6 @@ part-run-line-end c = search needs
 
 run-line-requires : tie.Need-run-line-requires Inv-loop μ-loop
 run-line-requires c κs = (omega (arith, c .before .before .before .before .before .before .before .before .before .before .before .before .before .before .before .pre, c .before .before .before .before .before .before .before .loop .inv .3), omega (arith, c .before .before .before .before .before .before .before .before .before .before .before .before .before .before .before .pre, c .before .before .before .before .before .before .before .loop .inv .6), c .before .before .before .before .before .before .before .loop .inv .7)
-
-add-at : tie.Need-add-at Inv-loop μ-loop
-add-at c = search needs
 
 find-requires-2 : tie.Need-find-requires-2 Inv-loop μ-loop
 find-requires-2 c κs = search needs
@@ -71,11 +71,11 @@ run-lines-spec =
     μ-loop
     find-requires
     loop-holds
+    add-next
     sub-run-line
     part-run-line-start
     part-run-line-end
     run-line-requires
-    add-at
     find-requires-2
     loop-less
     loop-again
