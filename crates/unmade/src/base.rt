@@ -11,7 +11,7 @@ pub const LINKS: usize = 6 * (POOL + 1) + 4;
 
 pub const POOL: usize = 8;
 
-// The slice that a number is written into: a bit of the words is written by the number of its set and its own.
+// Where a number is written: a number of the rules' slice, a cell, or a bit of the words.
 pub const RULE: usize = 0;
 
 pub const CELL: usize = 1;

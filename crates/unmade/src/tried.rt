@@ -35,7 +35,7 @@ fn try_new(rules: [u8; base::RULES], cells: [u8; base::CELLS], words: [u64; base
     let mut w = words;
     let answer = generator::new(&mut r, &mut c, &mut w, 2, 3);
     print_call(b" N", answer.number());
-    print_left(rules, cells, words, r, c, w);
+    print_left(&rules, &cells, &words, &r, &c, &w);
 }
 
 // 64 -> 2: a START rule, so that set 0's kernel changes.
@@ -47,7 +47,9 @@ fn try_add(rules: [u8; base::RULES], cells: [u8; base::CELLS], words: [u64; base
     let answer = changed.answer;
     print_call(b" A", answer.number());
     print_number(changed.rule);
-    print_left(rules, cells, words, r, c, w);
+    if print_left(&rules, &cells, &words, &r, &c, &w) {
+        print_next(&mut r, &mut c, &mut w);
+    }
 }
 
 // 65 -> 1.
@@ -59,7 +61,9 @@ fn try_delete(rules: [u8; base::RULES], cells: [u8; base::CELLS], words: [u64; b
     let answer = changed.answer;
     print_call(b" D", answer.number());
     print_number(changed.rule);
-    print_left(rules, cells, words, r, c, w);
+    if print_left(&rules, &cells, &words, &r, &c, &w) {
+        print_next(&mut r, &mut c, &mut w);
+    }
 }
 
 fn try_collect(rules: [u8; base::RULES], cells: [u8; base::CELLS], words: [u64; base::WORDS]) {
@@ -68,7 +72,7 @@ fn try_collect(rules: [u8; base::RULES], cells: [u8; base::CELLS], words: [u64; 
     let mut w = words;
     let answer = generator::collect(&mut r, &mut c, &mut w);
     print_call(b" G", answer.number());
-    print_left(rules, cells, words, r, c, w);
+    print_left(&rules, &cells, &words, &r, &c, &w);
 }
 
 fn try_restart(rules: [u8; base::RULES], cells: [u8; base::CELLS], words: [u64; base::WORDS]) {
@@ -77,7 +81,7 @@ fn try_restart(rules: [u8; base::RULES], cells: [u8; base::CELLS], words: [u64; 
     let mut w = words;
     let answer = generator::restart(&mut r, &mut c, &mut w);
     print_call(b" R", answer.number());
-    print_left(rules, cells, words, r, c, w);
+    print_left(&rules, &cells, &words, &r, &c, &w);
 }
 
 // Over a link buffer that is not zero.
@@ -95,8 +99,8 @@ fn try_parse(
     let answer = verdict.answer;
     print_call(b" P", answer.number());
     print_number(verdict.links);
-    print_links(links, answer.number());
-    print_left(rules, cells, words, r, c, w);
+    print_links(&links, answer.number());
+    print_left(&rules, &cells, &words, &r, &c, &w);
 }
 
 // ` G 0`
@@ -110,54 +114,42 @@ fn print_number(n: usize) {
     io::print_decimal(1, n as u64);
 }
 
-// What the call left of the numbers.
-fn print_left(
-    rules: [u8; base::RULES],
-    cells: [u8; base::CELLS],
-    words: [u64; base::WORDS],
-    r: [u8; base::RULES],
-    c: [u8; base::CELLS],
-    w: [u64; base::WORDS],
-) {
-    let sets = r[0];
-    let places = r[1];
-    if !same_beyond(&rules, &cells, &words, &r, &c, &w, sets, places) {
+// Prints what the call left of the numbers; says whether it left them out of form.
+fn print_left(rules: &[u8], cells: &[u8], words: &[u64], r: &[u8], c: &[u8], w: &[u64]) -> bool {
+    if !same_beyond(rules, cells, words, r, c, w) {
         io::write_all(1, b"!");
-        return;
+        return false;
     }
-    if same_bytes(&rules, &r, 0) && same_bytes(&cells, &c, 0) && same_words(&words, &w, 0) {
+    if same_bytes(rules, r, 0) && same_bytes(cells, c, 0) && same_words(words, w, 0) {
         io::write_all(1, b"=");
-        return;
+        return false;
     }
-    if form::is_formed(&r, &c, &w) {
+    if form::is_formed(r, c, w) {
         io::write_all(1, b"+");
-        return;
+        return false;
     }
     io::write_all(1, b"-");
-    print_next(r, c, w);
+    true
 }
 
 // What Collect answers to a table that a call left out of form.
-fn print_next(rules: [u8; base::RULES], cells: [u8; base::CELLS], words: [u64; base::WORDS]) {
-    let mut r = rules;
-    let mut c = cells;
-    let mut w = words;
-    let answer = generator::collect(&mut r, &mut c, &mut w);
+fn print_next(rules: &mut [u8], cells: &mut [u8], words: &mut [u64]) {
+    let answer = generator::collect(rules, cells, words);
     print_number(answer.number() as usize);
 }
 
 // A refused parse leaves the link buffer as it was, any other leaves the pool's part zero; beyond it nothing is touched.
-fn print_links(links: [u16; base::LINKS], answer: u8) {
+fn print_links(links: &[u16], answer: u8) {
     let end = 6 * (base::POOL + 1);
-    if !all_are(&links, end, base::LINKS, 7) {
+    if !all_are(links, end, base::LINKS, 7) {
         io::write_all(1, b"!");
         return;
     }
     if 10 <= answer && answer < 20 {
-        print_wrong(all_are(&links, 0, end, 7));
+        print_wrong(all_are(links, 0, end, 7));
         return;
     }
-    print_wrong(all_are(&links, 0, end, 0));
+    print_wrong(all_are(links, 0, end, 0));
 }
 
 fn print_wrong(right: bool) {
@@ -178,17 +170,10 @@ fn all_are(numbers: &[u16], from: usize, to: usize, x: u16) -> bool {
     true
 }
 
-// Whether the numbers beyond the pools of so many sets and places are the same.
-fn same_beyond(
-    rules: &[u8],
-    cells: &[u8],
-    words: &[u64],
-    r: &[u8],
-    c: &[u8],
-    w: &[u64],
-    sets: u8,
-    places: u8,
-) -> bool {
+// Whether the numbers beyond the pools are the same, by the sizes that the call left.
+fn same_beyond(rules: &[u8], cells: &[u8], words: &[u64], r: &[u8], c: &[u8], w: &[u64]) -> bool {
+    let sets = byte_or_0(r, 0);
+    let places = byte_or_0(r, 1);
     if !same_bytes(rules, r, 2 + places as usize * 10) {
         return false;
     }
@@ -196,6 +181,10 @@ fn same_beyond(
         return false;
     }
     same_words(words, w, sets as usize * 18)
+}
+
+fn byte_or_0(bytes: &[u8], i: usize) -> u8 {
+    if i < bytes.len() { bytes[i] } else { 0 }
 }
 
 // Whether the two have the same bytes from `from` on.
