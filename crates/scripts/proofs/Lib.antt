@@ -1,2 +1,5 @@
--- The laws.
+-- The laws, in the order in which they build on each other.
 pub mod Inside
+pub mod Newlines
+pub mod Running
+pub mod Rest

@@ -6,8 +6,11 @@
 use desk::ROOM;
 use libc::STDOUT_FILENO;
 ghost use mathlib.Core.Path.{_≡_};
-ghost use Prim.Native.Nat.{_+_, _≤_};
+ghost use Prim.Native.Nat.{_+_, _≤_, min};
 ghost use lib.ListN.{length};
+ghost use Rattle.table.specs.Layout.{mem};
+ghost use Rattle.desk.specs.Obeys.{state};
+ghost use Rattle.scripts.specs.Lines.{RanLine, RanLines, RanLast, KeptRest};
 
 // The longest line that can be good: a letter, 256 numbers of four digits, each after a space, and a newline.
 const LONGEST: usize = 1282;
@@ -48,13 +51,18 @@ pub fn run(fd: i32, name: &[u8]) {
     let mut turns = u64::MAX;
     while turns > 0 && held < end {
         let ran = run_lines(text, end, rules, cells, words, links, out, kept);
-        kept = flush(out, ran.kept);
+        let now = ran.kept;
+        flush(out, now.used);
+        kept = Kept {
+            pool: now.pool,
+            used: 0,
+        };
         held = keep_rest(text, ran.at, end);
         end = held + fill(fd, name, text, held);
         turns -= 1;
     }
     let done = run_last(text, held, rules, cells, words, links, out, kept);
-    flush(out, done);
+    flush(out, done.used);
 }
 
 // Zeros for the output: room for any line's text behind 65,536 bytes that wait.
@@ -81,7 +89,7 @@ fn fill(fd: i32, name: &[u8], text: &mut [u8], held: usize) -> usize
 // Moves what stands from `at` up to `end` to the front, as much of it as a line's meaning needs, and answers how much.
 fn keep_rest(text: &mut [u8], at: usize, end: usize) -> usize
     requires { ⌜ (at ≤ end) × (end ≤ length (now text)) ⌝ }
-    ensures { λ r. ⌜ r ≤ 1283 ⌝ }
+    ensures { λ r. ⌜ KeptRest (now (text .entry)) at end (now (text .exit)) r ⌝ }
 {
     let n = least(end - at, LONGEST + 1);
     let mut i: usize = 0;
@@ -93,7 +101,7 @@ fn keep_rest(text: &mut [u8], at: usize, end: usize) -> usize
 }
 
 fn least(a: usize, b: usize) -> usize
-    ensures { λ r. ⌜ (r ≤ a) × (r ≤ b) ⌝ }
+    ensures { λ r. ⌜ r ≡ min a b ⌝ }
 {
     if a < b { a } else { b }
 }
@@ -110,7 +118,9 @@ fn run_lines(
     kept: Kept,
 ) -> Ran
     requires { ⌜ (n ≤ length (now text)) × (length (now cells) ≤ 16384) × (1056768 ≤ length (now out)) × (kept .used ≤ length (now out)) ⌝ }
-    ensures { λ r. ⌜ (r .at ≤ n) × (r .kept .used ≤ length (now (out .entry))) ⌝ }
+    ensures { λ r. ⌜ (r .kept .used ≤ length (now (out .entry))) × RanLines (now (text .entry)) n
+        (state (mem (now (rules .entry)) (now (cells .entry)) (now (words .entry))) (now (links .entry)) (kept .pool))
+        (state (mem (now (rules .exit)) (now (cells .exit)) (now (words .exit))) (now (links .exit)) (r .kept .pool)) (r .at) ⌝ }
 {
     let mut now = kept;
     let mut at: usize = 0;
@@ -136,7 +146,9 @@ fn run_last(
     kept: Kept,
 ) -> Kept
     requires { ⌜ (n ≤ length (now text)) × (length (now cells) ≤ 16384) × (1056768 ≤ length (now out)) × (kept .used ≤ length (now out)) ⌝ }
-    ensures { λ r. ⌜ r .used ≤ length (now (out .entry)) ⌝ }
+    ensures { λ r. ⌜ (r .used ≤ length (now (out .entry))) × RanLast (now (text .entry)) n
+        (state (mem (now (rules .entry)) (now (cells .entry)) (now (words .entry))) (now (links .entry)) (kept .pool))
+        (state (mem (now (rules .exit)) (now (cells .exit)) (now (words .exit))) (now (links .exit)) (r .pool)) ⌝ }
 {
     if n == 0 {
         return kept;
@@ -155,39 +167,37 @@ fn run_line(
     kept: Kept,
 ) -> Kept
     requires { ⌜ (length (now cells) ≤ 16384) × (1056768 ≤ length (now out)) × (kept .used ≤ length (now out)) ⌝ }
-    ensures { λ r. ⌜ r .used ≤ length (now (out .entry)) ⌝ }
+    ensures { λ r. ⌜ RanLine (now (line .entry))
+        (state (mem (now (rules .entry)) (now (cells .entry)) (now (words .entry))) (now (links .entry)) (kept .pool))
+        (state (mem (now (rules .exit)) (now (cells .exit)) (now (words .exit))) (now (links .exit)) (r .pool))
+        (now (out .entry)) (now (out .exit)) (r .used) ⌝ }
 {
-    let ready = with_room(out, kept);
-    let used = ready.used;
-    let done = desk::answer(line, rules, cells, words, links, out, ready.pool, used);
+    let start = ready(out, kept.used);
+    let done = desk::answer(line, rules, cells, words, links, out, kept.pool, start);
     Kept {
         pool: done.pool,
         used: done.end,
     }
 }
 
-// Makes room for a line's text: what waits is written out, unless there is room behind it.
-fn with_room(out: &[u8], kept: Kept) -> Kept
-    requires { ⌜ (1056768 ≤ length (now out)) × (kept .used ≤ length (now out)) ⌝ }
-    ensures { λ r. ⌜ r .used + 1056768 ≤ length (now (out .entry)) ⌝ }
+// Where the next line's text may be put: behind what waits, if there is room, and else at the front, once that is written out.
+fn ready(out: &[u8], used: usize) -> usize
+    requires { ⌜ (1056768 ≤ length (now out)) × (used ≤ length (now out)) ⌝ }
+    ensures { λ r. ⌜ r + 1056768 ≤ length (now (out .entry)) ⌝ }
 {
-    let used = kept.used;
     if used <= out.len() - ROOM {
-        return kept;
+        return used;
     }
-    flush(out, kept)
+    flush(out, used);
+    0
 }
 
-// Writes out what waits. A write that fails is said on standard error.
-fn flush(out: &[u8], kept: Kept) -> Kept
-    requires { ⌜ kept .used ≤ length (now out) ⌝ }
-    ensures { λ r. ⌜ (r .used ≡ 0) × (r .pool ≡ kept .pool) ⌝ }
+// Writes out the first bytes of the output. A write that fails is said on standard error.
+fn flush(out: &[u8], used: usize)
+    requires { ⌜ used ≤ length (now out) ⌝ }
 {
-    let used = kept.used;
     let is_written = io::write_all(STDOUT_FILENO, &out[..used]);
     if !is_written {
         os::fail(b"standard output");
     }
-    let pool = kept.pool;
-    Kept { pool, used: 0 }
 }

@@ -6,7 +6,7 @@ use Rattle.scripts.proofs.lines.flush.Statement.{statement}
 use Rattle.scripts.proofs.lines.flush.Tie as tie
 
 slice-aggregate-write-all : tie.Need-slice-aggregate-write-all
-slice-aggregate-write-all c = omega (arith, c .before .before .pre, length-take (c .before .before .args .kept .used) (c .before .before .args .out .now))
+slice-aggregate-write-all c = omega (arith, c .before .before .pre, length-take (c .before .before .args .used) (c .before .before .args .out .now))
 
 write-all-requires : tie.Need-write-all-requires
 write-all-requires c κs = search needs

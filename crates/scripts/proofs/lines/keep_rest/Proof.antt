@@ -1,13 +1,15 @@
 -- `keep_rest` meets its contract. Assumes nothing.
-use mathlib.Core.Path.{_≡_}
+use mathlib.Core.Path.{subst, _≡_}
 use Prim.Native.Nat.{_-_, _≤_}
-use lib.ListN.{length}
+use native.Mathlib.Omega.{arith}
+use lib.ListN.{take, drop}
 use borrow.Author.Needs.{needs}
+use Rattle.scripts.proofs.Rest.{Moved, moved-none, moved-more}
 use Rattle.scripts.proofs.lines.keep_rest.Statement.{statement}
 use Rattle.scripts.proofs.lines.keep_rest.Tie as tie
 
 abbrev Inv-loop : tie.InvT-loop
-Inv-loop text₀ at end n i₀ text i = (i ≤ n) × (length text ≡ length text₀)
+Inv-loop text₀ at end n i₀ text i = (i ≤ n) × Moved text₀ at i text
 
 abbrev μ-loop : tie.MeasureT-loop
 μ-loop text₀ at end n i₀ text i = n - i
@@ -22,16 +24,16 @@ least-requires : tie.Need-least-requires Inv-loop μ-loop
 least-requires c κs = search needs
 
 loop-holds : tie.Need-loop-holds Inv-loop μ-loop
-loop-holds c = search needs
+loop-holds c = (omega arith, moved-none)
 
 add-text : tie.Need-add-text Inv-loop μ-loop
-add-text c = search needs
+add-text c = omega (arith, c .before .before .before .before .pre, c .loop-test .taken, c .before .before .least .ensures, c .before .loop .inv)
 
 slice-read-text : tie.Need-slice-read-text Inv-loop μ-loop
-slice-read-text c = search needs
+slice-read-text c = omega (arith, c .before .before .before .before .before .pre, c .before .loop-test .taken, c .before .before .before .least .ensures, c .before .before .loop .inv .1 .same-length)
 
 slice-write-text : tie.Need-slice-write-text Inv-loop μ-loop
-slice-write-text c = search needs
+slice-write-text c = omega (arith, c .before .before .before .before .before .pre, c .before .loop-test .taken, c .before .before .before .least .ensures, c .before .before .loop .inv .1 .same-length)
 
 add-i : tie.Need-add-i Inv-loop μ-loop
 add-i c = search needs
@@ -40,13 +42,19 @@ loop-less : tie.Need-loop-less Inv-loop μ-loop
 loop-less c = search needs
 
 loop-again : tie.Need-loop-again Inv-loop μ-loop
-loop-again c = search needs
+loop-again c = (omega arith, moved-more (c .before .before .loop .inv .1) (omega (arith, c .before .before .before .before .before .pre, c .before .loop-test .taken, c .before .before .before .least .ensures)))
 
 same-length : tie.Need-same-length Inv-loop μ-loop
-same-length c = search needs
+same-length c = c .before .loop .inv .1 .same-length
 
 returns : tie.Need-returns Inv-loop μ-loop
-returns c = search needs
+returns c = let e : c .before .loop .i ≡ c .before .before .least .result = omega (arith, c .loop-test .left, c .before .loop .inv .0) in
+    record {
+      few = omega (arith, c .before .before .least .ensures);
+      all = λ h. omega (arith, c .before .before .least .ensures);
+      cut = λ h. omega (arith, c .before .before .least .ensures);
+      front = subst (λ i. take i (c .before .loop .text) ≡ take i (drop (c .before .before .before .before .args .at) (c .before .before .before .before .args .text .now))) e (c .before .loop .inv .1 .front);
+    }
 
 pub keep-rest-spec : {M : Type 1} → statement M
 keep-rest-spec =

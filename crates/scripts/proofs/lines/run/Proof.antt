@@ -48,16 +48,16 @@ run-lines-requires : tie.Need-run-lines-requires Inv-loop μ-loop
 run-lines-requires c κs = (c .before .before .before .before .before .before .before .before .loop .inv .1, c .before .before .before .before .before .before .before .before .loop .inv .2, c .before .before .before .before .before .before .before .before .loop .inv .3, c .before .before .before .before .before .before .before .before .loop .inv .5)
 
 flush-requires : tie.Need-flush-requires Inv-loop μ-loop
-flush-requires c κs = omega (arith, c .before .before .before .before .before .before .before .before .before .before .before .run-lines .ensures .1, c .before .before .before .before .before .before .before .before .before .before .before .run-lines .kept .1 .1 .1 .1 .1 .1 .0)
+flush-requires c κs = omega (arith, c .before .before .before .before .before .before .before .before .before .before .before .before .run-lines .ensures .0, c .before .before .before .before .before .before .before .before .before .before .before .before .run-lines .kept .1 .1 .1 .1 .1 .1 .0)
 
 keep-rest-requires : tie.Need-keep-rest-requires Inv-loop μ-loop
-keep-rest-requires c κs = (c .before .before .before .before .before .before .before .before .before .before .before .before .before .run-lines .ensures .0, c .before .before .before .before .before .before .before .before .before .before .before .before .before .before .before .before .before .before .before .before .before .before .loop .inv .1)
+keep-rest-requires c κs = (c .before .before .before .before .before .before .before .before .before .before .before .before .before .before .run-lines .ensures .1 .within, c .before .before .before .before .before .before .before .before .before .before .before .before .before .before .before .before .before .before .before .before .before .before .before .loop .inv .1)
 
 fill-requires-2 : tie.Need-fill-requires-2 Inv-loop μ-loop
-fill-requires-2 c κs = omega (arith, c .before .before .before .keep-rest .ensures, c .before .before .before .before .before .before .before .before .before .before .before .before .before .before .before .before .before .before .before .before .before .before .before .before .before .before .loop .inv .4, c .before .before .before .keep-rest .kept .0)
+fill-requires-2 c κs = omega (arith, c .before .before .before .keep-rest .ensures .few, c .before .before .before .before .before .before .before .before .before .before .before .before .before .before .before .before .before .before .before .before .before .before .before .before .before .before .before .loop .inv .4, c .before .before .before .keep-rest .kept .0)
 
 add-end : tie.Need-add-end Inv-loop μ-loop
-add-end c = omega (arith, c .before .before .before .before .before .before .keep-rest .ensures, c .before .before .fill2 .ensures, c .before .before .before .before .before .before .before .before .before .before .before .before .before .before .before .before .before .before .before .before .before .before .before .before .before .before .before .before .before .loop .inv, c .before .before .before .before .before .before .keep-rest .kept .0)
+add-end c = omega (arith, c .before .before .before .before .before .before .keep-rest .ensures .few, c .before .before .fill2 .ensures, c .before .before .before .before .before .before .before .before .before .before .before .before .before .before .before .before .before .before .before .before .before .before .before .before .before .before .before .before .before .before .loop .inv .4, c .before .before .before .before .before .before .keep-rest .kept .0)
 
 sub-turns : tie.Need-sub-turns Inv-loop μ-loop
 sub-turns c = omega arith
@@ -66,13 +66,13 @@ loop-less : tie.Need-loop-less Inv-loop μ-loop
 loop-less c = omega arith
 
 loop-again : tie.Need-loop-again Inv-loop μ-loop
-loop-again c = (c .before .before .before .before .before .before .keep-rest .ensures, omega (arith, c .before .before .fill2 .ensures, c .before .before .fill2 .kept .1 .1 .0), omega (arith, c .before .before .before .before .before .before .before .before .before .before .before .before .before .before .before .before .before .before .before .before .before .before .before .before .before .before .before .before .before .loop .inv .2, c .before .before .before .before .before .before .before .before .before .before .before .before .before .before .before .before .before .before .before .before .run-lines .kept .1 .1 .1 .0), omega (arith, c .before .before .before .before .before .before .before .before .before .before .before .before .before .before .before .before .before .before .before .before .before .before .before .before .before .before .before .before .before .loop .inv .3, c .before .before .before .before .before .before .before .before .before .before .before .before .before .before .before .before .before .before .before .before .run-lines .kept .1 .1 .1 .1 .1 .1 .0), omega (arith, c .before .before .before .before .before .before .before .before .before .before .before .before .before .before .before .before .before .before .before .before .before .before .before .before .before .before .before .before .before .loop .inv .4, c .before .before .fill2 .kept .1 .1 .0, c .before .before .before .before .before .before .keep-rest .kept .0), omega (arith, c .before .before .before .before .before .before .before .before .flush .ensures .0))
+loop-again c = (c .before .before .before .before .before .before .keep-rest .ensures .few, omega (arith, c .before .before .fill2 .ensures, c .before .before .fill2 .kept .1 .1 .0), omega (arith, c .before .before .before .before .before .before .before .before .before .before .before .before .before .before .before .before .before .before .before .before .before .before .before .before .before .before .before .before .before .before .loop .inv .2, c .before .before .before .before .before .before .before .before .before .before .before .before .before .before .before .before .before .before .before .before .before .run-lines .kept .1 .1 .1 .0), omega (arith, c .before .before .before .before .before .before .before .before .before .before .before .before .before .before .before .before .before .before .before .before .before .before .before .before .before .before .before .before .before .before .loop .inv .3, c .before .before .before .before .before .before .before .before .before .before .before .before .before .before .before .before .before .before .before .before .before .run-lines .kept .1 .1 .1 .1 .1 .1 .0), omega (arith, c .before .before .before .before .before .before .before .before .before .before .before .before .before .before .before .before .before .before .before .before .before .before .before .before .before .before .before .before .before .before .loop .inv .4, c .before .before .fill2 .kept .1 .1 .0, c .before .before .before .before .before .before .keep-rest .kept .0), omega arith)
 
 run-last-requires : tie.Need-run-last-requires Inv-loop μ-loop
-run-last-requires c κs = (omega (arith, c .before .before .before .loop .inv), c .before .before .before .loop .inv .2, c .before .before .before .loop .inv .3, c .before .before .before .loop .inv .5)
+run-last-requires c κs = (omega (arith, c .before .before .before .loop .inv .0, c .before .before .before .loop .inv .4), c .before .before .before .loop .inv .2, c .before .before .before .loop .inv .3, c .before .before .before .loop .inv .5)
 
 flush-requires-2 : tie.Need-flush-requires-2 Inv-loop μ-loop
-flush-requires-2 c κs = omega (arith, c .before .before .before .before .before .before .before .before .run-last .ensures, c .before .before .before .before .before .before .before .before .run-last .kept .1 .1 .1 .1 .1 .1 .0)
+flush-requires-2 c κs = omega (arith, c .before .before .before .before .before .before .before .before .run-last .ensures .0, c .before .before .before .before .before .before .before .before .run-last .kept .1 .1 .1 .1 .1 .1 .0)
 
 returns : tie.Need-returns Inv-loop μ-loop
 returns c = search needs

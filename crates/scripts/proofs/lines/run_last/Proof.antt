@@ -1,4 +1,5 @@
 -- `run_last` meets its contract. Assumes nothing.
+use mathlib.Core.Path.{refl}
 use native.Mathlib.Omega.{arith}
 use lib.ListN.{length-take}
 use borrow.Author.Needs.{needs}
@@ -6,7 +7,7 @@ use Rattle.scripts.proofs.lines.run_last.Statement.{statement}
 use Rattle.scripts.proofs.lines.run_last.Tie as tie
 
 returns : tie.Need-returns
-returns c = search needs
+returns c = (c .before .before .before .before .before .before .before .pre .3, record { ended = λ _. refl; last = λ n. absurd (n (c .if1 .taken)) })
 
 slice-aggregate-run-line : tie.Need-slice-aggregate-run-line
 slice-aggregate-run-line c = omega (arith, c .before .before .before .before .before .before .before .before .pre, length-take (c .before .before .before .before .before .before .before .before .args .n) (c .before .before .before .before .before .before .before .before .args .text .now))
@@ -30,7 +31,7 @@ same-length-5 : tie.Need-same-length-5
 same-length-5 c = search needs
 
 returns-2 : tie.Need-returns-2
-returns-2 c = search needs
+returns-2 c = let l = c .before .before .before .before .before .before .before .before .before .before .run-line .ensures in (l .inside, record { ended = λ z. absurd (c .before .before .before .before .before .before .before .before .before .before .before .before .before .before .before .before .before .if1 .left z); last = λ _. (l .prints .text, l .prints .answers) })
 
 pub run-last-spec : {M : Type 1} → statement M
 run-last-spec =

@@ -5,8 +5,8 @@ use Rattle.scripts.proofs.Inside.{puts-inside}
 use Rattle.scripts.proofs.lines.run_line.Statement.{statement}
 use Rattle.scripts.proofs.lines.run_line.Tie as tie
 
-with-room-requires : tie.Need-with-room-requires
-with-room-requires c κs = search needs
+ready-requires : tie.Need-ready-requires
+ready-requires c κs = search needs
 
 answer-requires : tie.Need-answer-requires
 answer-requires c κs = search needs
@@ -27,13 +27,14 @@ same-length-5 : tie.Need-same-length-5
 same-length-5 c = search needs
 
 returns : tie.Need-returns
-returns c = let inside = puts-inside (c .before .before .before .before .before .before .before .before .before .before .answer .ensures .puts) (omega (arith, c .before .before .before .before .before .before .before .before .before .before .before .before .before .before .before .before .with-room .ensures)) in omega (arith, inside, c .before .before .before .before .before .before .before .before .before .before .answer .kept .1 .1 .1 .1 .1 .0)
+returns c = let p = c .before .before .before .before .before .before .before .before .before .before .answer .ensures in let inside = puts-inside (p .puts) (omega (arith, c .before .before .before .before .before .before .before .before .before .before .before .before .before .before .before .before .ready .ensures)) in
+    record { inside = omega (arith, inside, c .before .before .before .before .before .before .before .before .before .before .answer .kept .1 .1 .1 .1 .1 .0); start = _; prints = p }
 
 pub run-line-spec : {M : Type 1} → statement M
 run-line-spec =
     tie.close
     (tie.spec
-    with-room-requires
+    ready-requires
     answer-requires
     same-length
     same-length-2

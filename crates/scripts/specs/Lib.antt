@@ -1,0 +1,2 @@
+-- What the lines of a text leave.
+pub mod Lines
