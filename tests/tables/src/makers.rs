@@ -1,5 +1,6 @@
-//! Tables to call on: made ones, made ones with a few numbers changed, ones in form that no call made, wholly random numbers,
-//! slices that are too short, and sizes that are off by one. Numbers that lie beyond the pools are random in all but the last.
+//! Tables to call on: made ones, made ones with a few numbers changed, ones in form that no call made, ones spoiled in one clause
+//! of the form, wholly random numbers, slices that are too short, and sizes that are off by one. Numbers that lie beyond the
+//! pools are random in all but the last.
 
 use crate::calls::{rule, Call};
 use crate::random::Random;
@@ -7,10 +8,11 @@ use reference::pools::Pools;
 
 pub type Maker = (&'static str, fn(&mut Random) -> Pools);
 
-pub const MAKERS: [Maker; 6] = [
+pub const MAKERS: [Maker; 7] = [
     ("made", made),
     ("changed", changed),
     ("unmade", unmade),
+    ("spoiled", spoiled),
     ("random", wholly_random),
     ("short", short),
     ("resized", resized),
@@ -62,8 +64,11 @@ fn changed(random: &mut Random) -> Pools {
     pools
 }
 
+/// A size, or a number of a rule, most often its state, its left symbol, its length or its first place.
 fn change_rules(pools: &mut Pools, random: &mut Random) {
-    let at = random.below(pools.rules.len());
+    let rule = random.below((pools.rules.len() - 2) / 10);
+    let number = random.pick(&[0, 0, 0, 1, 2, 3, 3, 4, 5, 9]);
+    let at = if random.chance(10) { random.below(2) } else { 2 + 10 * rule + number };
     change(&mut pools.rules[at], random);
 }
 
@@ -173,6 +178,57 @@ fn put_reductions(pools: &mut Pools, s: usize, of: &[usize], random: &mut Random
         if random.chance(30) {
             pools.words[18 * s + 16 + r / 64] |= 1 << (r % 64);
         }
+    }
+}
+
+/// A made or an unmade table, with a change aimed at one clause of the form.
+fn spoiled(random: &mut Random) -> Pools {
+    let mut pools = if random.chance(50) { made(random) } else { unmade(random) };
+    let (sets, places) = (usize::from(pools.rules[0]), usize::from(pools.rules[1]));
+    let (set, rule) = (random.below(sets), random.below(places));
+    match random.below(4) {
+        0 => spoil_rule(&mut pools.rules[2 + 10 * rule..][..10], random),
+        1 => copy_rule(&mut pools, rule, random.below(places)),
+        2 => copy_set(&mut pools, set, random.below(sets)),
+        _ => spoil_set(&mut pools, set, random),
+    }
+    pools
+}
+
+fn spoil_rule(numbers: &mut [u8], random: &mut Random) {
+    let length = usize::from(numbers[2]);
+    match random.below(5) {
+        0 => numbers[0] = random.pick(&[0, 2, 3]),
+        1 => numbers[1] = random.pick(&[0, 1, 128]),
+        2 if length > 0 => numbers[3 + random.below(length)] = random.pick(&[0, 64, 128]),
+        3 if length < 7 => numbers[3 + random.between(length, 6)] = 1,
+        _ => numbers[2] = random.pick(&[0, 1, 8]),
+    }
+}
+
+/// Two equal rules, the second withdrawn, where the second place was free.
+fn copy_rule(pools: &mut Pools, from: usize, to: usize) {
+    if pools.rules[2 + 10 * from] != 0 && pools.rules[2 + 10 * to] == 0 {
+        pools.rules.copy_within(2 + 10 * from..12 + 10 * from, 2 + 10 * to);
+        pools.rules[2 + 10 * to] = 2;
+    }
+}
+
+/// Two equal kernels, where the second set was free.
+fn copy_set(pools: &mut Pools, from: usize, to: usize) {
+    if pools.cells[128 * to] == 0 {
+        pools.cells.copy_within(128 * from..128 * (from + 1), 128 * to);
+        pools.words.copy_within(18 * from..18 * (from + 1), 18 * to);
+    }
+}
+
+/// A mark, a target, an item or a reduction that may not be there.
+fn spoil_set(pools: &mut Pools, set: usize, random: &mut Random) {
+    match random.below(4) {
+        0 => pools.cells[128 * set] = random.between(0, 4) as u8,
+        1 => pools.cells[128 * set + random.pick(&[1, 2, 65, 127])] = random.below(13) as u8,
+        2 => pools.words[18 * set] ^= 1 << random.below(64),
+        _ => pools.words[18 * set + 16] ^= 1 << random.below(9),
     }
 }
 
