@@ -6,3 +6,4 @@ pub mod InUse
 pub mod Made
 pub mod Replied
 pub mod Obeyed
+pub mod OneOutcome
