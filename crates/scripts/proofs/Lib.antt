@@ -1,5 +1,6 @@
 -- The laws, in the order in which they build on each other.
 pub mod Inside
 pub mod Newlines
+pub mod Waiting
 pub mod Running
 pub mod Rest

@@ -10,7 +10,7 @@ ghost use Prim.Native.Nat.{_+_, _≤_, min};
 ghost use lib.ListN.{length};
 ghost use Rattle.table.specs.Layout.{mem};
 ghost use Rattle.desk.specs.Obeys.{state};
-ghost use Rattle.scripts.specs.Lines.{RanLine, RanLines, RanLast, KeptRest};
+ghost use Rattle.scripts.specs.Lines.{Ready, RanLine, RanLines, RanLast, KeptRest};
 
 // The longest line that can be good: a letter, 256 numbers of four digits, each after a space, and a newline.
 const LONGEST: usize = 1282;
@@ -118,9 +118,10 @@ fn run_lines(
     kept: Kept,
 ) -> Ran
     requires { ⌜ (n ≤ length (now text)) × (length (now cells) ≤ 16384) × (1056768 ≤ length (now out)) × (kept .used ≤ length (now out)) ⌝ }
-    ensures { λ r. ⌜ (r .kept .used ≤ length (now (out .entry))) × RanLines (now (text .entry)) n
+    ensures { λ r. ⌜ RanLines (now (text .entry)) n
         (state (mem (now (rules .entry)) (now (cells .entry)) (now (words .entry))) (now (links .entry)) (kept .pool))
-        (state (mem (now (rules .exit)) (now (cells .exit)) (now (words .exit))) (now (links .exit)) (r .kept .pool)) (r .at) ⌝ }
+        (state (mem (now (rules .exit)) (now (cells .exit)) (now (words .exit))) (now (links .exit)) (r .kept .pool)) (r .at)
+        (now (out .entry)) (kept .used) (now (out .exit)) (r .kept .used) ⌝ }
 {
     let mut now = kept;
     let mut at: usize = 0;
@@ -146,9 +147,10 @@ fn run_last(
     kept: Kept,
 ) -> Kept
     requires { ⌜ (n ≤ length (now text)) × (length (now cells) ≤ 16384) × (1056768 ≤ length (now out)) × (kept .used ≤ length (now out)) ⌝ }
-    ensures { λ r. ⌜ (r .used ≤ length (now (out .entry))) × RanLast (now (text .entry)) n
+    ensures { λ r. ⌜ RanLast (now (text .entry)) n
         (state (mem (now (rules .entry)) (now (cells .entry)) (now (words .entry))) (now (links .entry)) (kept .pool))
-        (state (mem (now (rules .exit)) (now (cells .exit)) (now (words .exit))) (now (links .exit)) (r .pool)) ⌝ }
+        (state (mem (now (rules .exit)) (now (cells .exit)) (now (words .exit))) (now (links .exit)) (r .pool))
+        (now (out .entry)) (kept .used) (now (out .exit)) (r .used) ⌝ }
 {
     if n == 0 {
         return kept;
@@ -170,7 +172,7 @@ fn run_line(
     ensures { λ r. ⌜ RanLine (now (line .entry))
         (state (mem (now (rules .entry)) (now (cells .entry)) (now (words .entry))) (now (links .entry)) (kept .pool))
         (state (mem (now (rules .exit)) (now (cells .exit)) (now (words .exit))) (now (links .exit)) (r .pool))
-        (now (out .entry)) (now (out .exit)) (r .used) ⌝ }
+        (now (out .entry)) (kept .used) (now (out .exit)) (r .used) ⌝ }
 {
     let start = ready(out, kept.used);
     let done = desk::answer(line, rules, cells, words, links, out, kept.pool, start);
@@ -183,7 +185,7 @@ fn run_line(
 // Where the next line's text may be put: behind what waits, if there is room, and else at the front, once that is written out.
 fn ready(out: &[u8], used: usize) -> usize
     requires { ⌜ (1056768 ≤ length (now out)) × (used ≤ length (now out)) ⌝ }
-    ensures { λ r. ⌜ r + 1056768 ≤ length (now (out .entry)) ⌝ }
+    ensures { λ r. ⌜ Ready (length (now (out .entry))) used r ⌝ }
 {
     if used <= out.len() - ROOM {
         return used;

@@ -48,10 +48,10 @@ run-lines-requires : tie.Need-run-lines-requires Inv-loop μ-loop
 run-lines-requires c κs = (c .before .before .before .before .before .before .before .before .loop .inv .1, c .before .before .before .before .before .before .before .before .loop .inv .2, c .before .before .before .before .before .before .before .before .loop .inv .3, c .before .before .before .before .before .before .before .before .loop .inv .5)
 
 flush-requires : tie.Need-flush-requires Inv-loop μ-loop
-flush-requires c κs = omega (arith, c .before .before .before .before .before .before .before .before .before .before .before .before .run-lines .ensures .0, c .before .before .before .before .before .before .before .before .before .before .before .before .run-lines .kept .1 .1 .1 .1 .1 .1 .0)
+flush-requires c κs = omega (arith, c .before .before .before .before .before .before .before .before .before .before .before .before .run-lines .ensures .ran .waits .inside, c .before .before .before .before .before .before .before .before .before .before .before .before .run-lines .kept .1 .1 .1 .1 .1 .1 .0)
 
 keep-rest-requires : tie.Need-keep-rest-requires Inv-loop μ-loop
-keep-rest-requires c κs = (c .before .before .before .before .before .before .before .before .before .before .before .before .before .before .run-lines .ensures .1 .within, c .before .before .before .before .before .before .before .before .before .before .before .before .before .before .before .before .before .before .before .before .before .before .before .loop .inv .1)
+keep-rest-requires c κs = (c .before .before .before .before .before .before .before .before .before .before .before .before .before .before .run-lines .ensures .within, c .before .before .before .before .before .before .before .before .before .before .before .before .before .before .before .before .before .before .before .before .before .before .before .loop .inv .1)
 
 fill-requires-2 : tie.Need-fill-requires-2 Inv-loop μ-loop
 fill-requires-2 c κs = omega (arith, c .before .before .before .keep-rest .ensures .few, c .before .before .before .before .before .before .before .before .before .before .before .before .before .before .before .before .before .before .before .before .before .before .before .before .before .before .before .loop .inv .4, c .before .before .before .keep-rest .kept .0)
@@ -72,7 +72,7 @@ run-last-requires : tie.Need-run-last-requires Inv-loop μ-loop
 run-last-requires c κs = (omega (arith, c .before .before .before .loop .inv .0, c .before .before .before .loop .inv .4), c .before .before .before .loop .inv .2, c .before .before .before .loop .inv .3, c .before .before .before .loop .inv .5)
 
 flush-requires-2 : tie.Need-flush-requires-2 Inv-loop μ-loop
-flush-requires-2 c κs = omega (arith, c .before .before .before .before .before .before .before .before .run-last .ensures .0, c .before .before .before .before .before .before .before .before .run-last .kept .1 .1 .1 .1 .1 .1 .0)
+flush-requires-2 c κs = omega (arith, c .before .before .before .before .before .before .before .before .run-last .ensures .waits .inside, c .before .before .before .before .before .before .before .before .run-last .kept .1 .1 .1 .1 .1 .1 .0)
 
 returns : tie.Need-returns Inv-loop μ-loop
 returns c = search needs

@@ -27,8 +27,8 @@ same-length-5 : tie.Need-same-length-5
 same-length-5 c = search needs
 
 returns : tie.Need-returns
-returns c = let p = c .before .before .before .before .before .before .before .before .before .before .answer .ensures in let inside = puts-inside (p .puts) (omega (arith, c .before .before .before .before .before .before .before .before .before .before .before .before .before .before .before .before .ready .ensures)) in
-    record { inside = omega (arith, inside, c .before .before .before .before .before .before .before .before .before .before .answer .kept .1 .1 .1 .1 .1 .0); start = _; prints = p }
+returns c = let p = c .before .before .before .before .before .before .before .before .before .before .answer .ensures in let inside = puts-inside (p .puts) (omega (arith, c .before .before .before .before .before .before .before .before .before .before .before .before .before .before .before .before .ready .ensures .room)) in
+    record { inside = omega (arith, inside, c .before .before .before .before .before .before .before .before .before .before .answer .kept .1 .1 .1 .1 .1 .0); start = _; ready = c .before .before .before .before .before .before .before .before .before .before .before .before .before .before .before .before .ready .ensures; prints = p }
 
 pub run-line-spec : {M : Type 1} → statement M
 run-line-spec =

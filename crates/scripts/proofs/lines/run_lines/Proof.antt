@@ -1,5 +1,6 @@
 -- `run_lines` meets its contract. Assumes nothing.
 use mathlib.Core.Path.{_≡_, refl, _∙_}
+use mathlib.Core.List.{[]}
 use Prim.Native.Nat.{_+_, _-_, _≤_}
 use native.Mathlib.Omega.{arith}
 use lib.ListN.{take, length}
@@ -8,8 +9,9 @@ use Rattle.table.specs.Layout.{mem}
 use Rattle.script.specs.Text.{NEWLINE}
 use Rattle.bytes.specs.Bytes.{indexOf, slice}
 use Rattle.desk.specs.Obeys.{state}
-use Rattle.scripts.specs.Lines.{Run}
+use Rattle.scripts.specs.Lines.{RanText}
 use Rattle.scripts.specs.Lines.Run.{none}
+use Rattle.scripts.proofs.Waiting.{waits-none}
 use Rattle.scripts.proofs.Running.{turn, ended}
 use Rattle.scripts.proofs.lines.run_lines.Statement.{statement}
 use Rattle.scripts.proofs.lines.run_lines.Tie as tie
@@ -18,8 +20,8 @@ abbrev Inv-loop : tie.InvT-loop
 Inv-loop text n rules₀ cells₀ words₀ links₀ out₀ now₀ at₀ end₀ rules cells words links out now at end =
     ((at ≤ n) × (end ≡ at + indexOf NEWLINE (slice at n text)) × (end ≤ n))
     × ((length rules ≡ length rules₀) × (length cells ≡ length cells₀) × (length words ≡ length words₀) × (length links ≡ length links₀))
-    × ((length out ≡ length out₀) × (now .used ≤ length out))
-    × Run (state (mem rules₀ cells₀ words₀) links₀ (now₀ .pool)) (take at text) (state (mem rules cells words) links (now .pool))
+    × (length out ≡ length out₀)
+    × RanText (take at text) (state (mem rules₀ cells₀ words₀) links₀ (now₀ .pool)) (state (mem rules cells words) links (now .pool)) out₀ (now₀ .used) out (now .used)
 
 abbrev μ-loop : tie.MeasureT-loop
 μ-loop text n rules₀ cells₀ words₀ links₀ out₀ now₀ at₀ end₀ rules cells words links out now at end = n - end
@@ -28,7 +30,7 @@ find-requires : tie.Need-find-requires Inv-loop μ-loop
 find-requires c κs = search needs
 
 loop-holds : tie.Need-loop-holds Inv-loop μ-loop
-loop-holds c = ((omega arith, c .find .ensures .0, c .find .ensures .1), (refl, refl, refl, refl), (refl, c .before .before .before .before .before .before .before .pre .3), none)
+loop-holds c = ((omega arith, c .find .ensures .0, c .find .ensures .1), (refl, refl, refl, refl), refl, record { printed = []; run = none; waits = waits-none _ _ (c .before .before .before .before .before .before .before .pre .3) })
 
 add-next : tie.Need-add-next Inv-loop μ-loop
 add-next c = search needs
@@ -43,7 +45,7 @@ part-run-line-end : tie.Need-part-run-line-end Inv-loop μ-loop
 part-run-line-end c = search needs
 
 run-line-requires : tie.Need-run-line-requires Inv-loop μ-loop
-run-line-requires c κs = (omega (arith, c .before .before .before .before .before .before .before .before .before .before .before .before .before .before .before .pre, c .before .before .before .before .before .before .before .loop .inv .1 .1), omega (arith, c .before .before .before .before .before .before .before .before .before .before .before .before .before .before .before .pre, c .before .before .before .before .before .before .before .loop .inv .2 .0), c .before .before .before .before .before .before .before .loop .inv .2 .1)
+run-line-requires c κs = (omega (arith, c .before .before .before .before .before .before .before .before .before .before .before .before .before .before .before .pre, c .before .before .before .before .before .before .before .loop .inv .1 .1), omega (arith, c .before .before .before .before .before .before .before .before .before .before .before .before .before .before .before .pre, c .before .before .before .before .before .before .before .loop .inv .2), omega (arith, c .before .before .before .before .before .before .before .loop .inv .2, c .before .before .before .before .before .before .before .loop .inv .3 .waits .inside))
 
 find-requires-2 : tie.Need-find-requires-2 Inv-loop μ-loop
 find-requires-2 c κs = search needs
@@ -55,8 +57,8 @@ loop-again : tie.Need-loop-again Inv-loop μ-loop
 loop-again c = let i = c .before .before .before .before .before .before .before .before .before .before .before .before .before .before .before .before .before .before .before .loop .inv in let l = c .before .before .before .before .before .before .before .before .before .before .before .run-line .ensures in (
   (omega (arith, c .before .before .before .before .before .before .before .before .before .before .before .before .before .before .before .before .before .before .loop-test .taken), c .find2 .ensures .0, c .find2 .ensures .1),
   (c .before .before .before .before .before .before .before .before .before .before .before .run-line .kept .1 .0 ∙ i .1 .0, c .before .before .before .before .before .before .before .before .before .before .before .run-line .kept .1 .1 .0 ∙ i .1 .1, c .before .before .before .before .before .before .before .before .before .before .before .run-line .kept .1 .1 .1 .0 ∙ i .1 .2, c .before .before .before .before .before .before .before .before .before .before .before .run-line .kept .1 .1 .1 .1 .0 ∙ i .1 .3),
-  (c .before .before .before .before .before .before .before .before .before .before .before .run-line .kept .1 .1 .1 .1 .1 .0 ∙ i .2 .0, omega (arith, l .inside, c .before .before .before .before .before .before .before .before .before .before .before .run-line .kept .1 .1 .1 .1 .1 .0)),
-  turn (c .before .before .before .before .before .before .before .before .before .before .before .before .before .before .before .before .before .before .before .before .before .before .before .before .before .before .before .args .text .now) (c .before .before .before .before .before .before .before .before .before .before .before .before .before .before .before .before .before .before .before .before .before .before .before .before .before .before .before .args .n) (c .before .before .before .before .before .before .before .before .before .before .before .before .before .before .before .before .before .before .before .loop .at) (c .before .before .before .before .before .before .before .before .before .before .before .before .before .before .before .before .before .before .before .before .before .before .before .before .before .before .before .pre .0) (i .0 .0) (i .0 .1) (c .before .before .before .before .before .before .before .before .before .before .before .before .before .before .before .before .before .before .loop-test .taken) (i .3) (l .prints .answers),
+  c .before .before .before .before .before .before .before .before .before .before .before .run-line .kept .1 .1 .1 .1 .1 .0 ∙ i .2,
+  turn (c .before .before .before .before .before .before .before .before .before .before .before .before .before .before .before .before .before .before .before .before .before .before .before .before .before .before .before .args .text .now) (c .before .before .before .before .before .before .before .before .before .before .before .before .before .before .before .before .before .before .before .before .before .before .before .before .before .before .before .args .n) (c .before .before .before .before .before .before .before .before .before .before .before .before .before .before .before .before .before .before .before .loop .at) (c .before .before .before .before .before .before .before .before .before .before .before .before .before .before .before .before .before .before .before .before .before .before .before .before .before .before .before .pre .0) (i .0 .0) (i .0 .1) (c .before .before .before .before .before .before .before .before .before .before .before .before .before .before .before .before .before .before .loop-test .taken) (i .3) l (i .2),
 )
 
 same-length : tie.Need-same-length Inv-loop μ-loop
@@ -72,11 +74,11 @@ same-length-4 : tie.Need-same-length-4 Inv-loop μ-loop
 same-length-4 c = c .before .loop .inv .1 .3
 
 same-length-5 : tie.Need-same-length-5 Inv-loop μ-loop
-same-length-5 c = c .before .loop .inv .2 .0
+same-length-5 c = c .before .loop .inv .2
 
 returns : tie.Need-returns Inv-loop μ-loop
 returns c = let i = c .before .loop .inv in
-    (omega (arith, i .2 .0, i .2 .1), record { within = i .0 .0; run = i .3; rest = ended (c .before .before .before .before .before .before .before .before .before .args .text .now) (c .before .before .before .before .before .before .before .before .before .args .n) (c .before .loop .at) (c .before .before .before .before .before .before .before .before .before .pre .0) (i .0 .0) (i .0 .1) (c .loop-test .left) })
+    record { within = i .0 .0; ran = i .3; rest = ended (c .before .before .before .before .before .before .before .before .before .args .text .now) (c .before .before .before .before .before .before .before .before .before .args .n) (c .before .loop .at) (c .before .before .before .before .before .before .before .before .before .pre .0) (i .0 .0) (i .0 .1) (c .loop-test .left) }
 
 pub run-lines-spec : {M : Type 1} → statement M
 run-lines-spec =
