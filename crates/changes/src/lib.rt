@@ -43,10 +43,10 @@ pub fn make(rules: &mut [u8], cells: &mut [u8], words: &mut [u64], sets: usize, 
     ensures { λ _. ⌜ Becomes (mem (now (rules .entry)) (now (cells .entry)) (now (words .entry))) (mem (now (rules .exit)) (now (cells .exit)) (now (words .exit)))
         (newTable sets places) ⌝ }
 {
-    table::clear(rules, 0, 2 + places * 10);
+    table::clear(rules, 0, table::SIZES + places * table::RULE);
     rules[0] = sets as u8;
     rules[1] = places as u8;
-    table::clear(cells, 0, sets * 128);
+    table::clear(cells, 0, sets * table::ROW);
     cells[0] = table::UNEXPANDED;
-    kernels::clear(words, 0, sets * 18);
+    kernels::clear(words, 0, sets * kernels::SET_WORDS);
 }

@@ -52,9 +52,13 @@ pub fn unexpand(cells: &mut [u8], words: &mut [u64], s: usize)
     requires { ⌜ HasRow s (sets (now cells) (now words)) ⌝ }
     ensures { λ _. ⌜ sets (now (cells .exit)) (now (words .exit)) ≡ unexpand s (sets (now (cells .entry)) (now (words .entry))) ⌝ }
 {
-    table::clear(cells, s * 128, 128);
-    cells[s * 128] = table::UNEXPANDED;
-    kernels::clear(words, s * 18 + 16, 2);
+    table::clear(cells, s * table::ROW, table::ROW);
+    cells[s * table::ROW] = table::UNEXPANDED;
+    kernels::clear(
+        words,
+        s * kernels::SET_WORDS + kernels::KERNEL_WORDS,
+        kernels::REDUCTION_WORDS,
+    );
 }
 
 // Set 0 becomes unexpanded, and its kernel every current START rule with dot 0.
@@ -62,8 +66,8 @@ fn start_again(rules: &[u8], cells: &mut [u8], words: &mut [u64])
     requires { ⌜ Sized (now rules) (sets (now cells) (now words)) ⌝ }
     ensures { λ _. ⌜ sets (now (cells .exit)) (now (words .exit)) ≡ startAgain (now (rules .entry)) (sets (now (cells .entry)) (now (words .entry))) ⌝ }
 {
-    table::clear(cells, 0, 128);
+    table::clear(cells, 0, table::ROW);
     cells[0] = table::UNEXPANDED;
-    kernels::clear(words, 0, 18);
+    kernels::clear(words, 0, kernels::SET_WORDS);
     table::put_starts(rules, words);
 }

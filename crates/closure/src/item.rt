@@ -14,11 +14,11 @@ pub fn after(rules: &[u8], item: usize) -> Symbol
     requires { ⌜ FormedRules (now rules) × (item < rulesIn (now rules) * 8) ⌝ }
     ensures { λ r. ⌜ r .0 ≡ afterAt (viewRules (now (rules .entry))) item ⌝ }
 {
-    let dot = item % 8;
+    let dot = item % kernels::DOTS;
     if dot == Rule::PLACES {
         return Symbol::END;
     }
-    Symbol(rules[5 + item / 8 * 10 + dot])
+    Symbol(rules[table::RIGHT + item / kernels::DOTS * table::RULE + dot])
 }
 
 // Whether the dot is at the end.
@@ -26,7 +26,7 @@ pub fn ends(rules: &[u8], item: usize) -> bool
     requires { ⌜ FormedRules (now rules) × (item < rulesIn (now rules) * 8) ⌝ }
     ensures { λ r. ⌜ r ≡ endsAt (viewRules (now (rules .entry))) item ⌝ }
 {
-    item % 8 == rules[4 + item / 8 * 10] as usize
+    item % kernels::DOTS == rules[table::LENGTH + item / kernels::DOTS * table::RULE] as usize
 }
 
 // The left symbol of rule r.
@@ -34,7 +34,7 @@ pub fn left(rules: &[u8], r: usize) -> Symbol
     requires { ⌜ FormedRules (now rules) × (r < rulesIn (now rules)) ⌝ }
     ensures { λ x. ⌜ x .0 ≡ ruleAt (viewRules (now (rules .entry))) r .left ⌝ }
 {
-    Symbol(rules[3 + r * 10])
+    Symbol(rules[table::LEFT + r * table::RULE])
 }
 
 // Whether rule r is a current rule of b.
@@ -42,7 +42,7 @@ pub fn is_current_rule_of(rules: &[u8], b: Symbol, r: usize) -> bool
     requires { ⌜ FormedRules (now rules) × (r < rulesIn (now rules)) ⌝ }
     ensures { λ x. ⌜ x ≡ currentRuleOf (viewRules (now (rules .entry))) (b .0) r ⌝ }
 {
-    if rules[2 + r * 10] != table::CURRENT {
+    if rules[table::SIZES + r * table::RULE] != table::CURRENT {
         return false;
     }
     left(rules, r).0 == b.0

@@ -43,7 +43,7 @@ fn round(rules: &[u8], closure: &mut [u64], met: &mut [u64])
 {
     let mut from = 0;
     loop {
-        let Found::At(item) = kernels::next(closure, 0, 16, from) else {
+        let Found::At(item) = kernels::next(closure, 0, kernels::KERNEL_WORDS, from) else {
             return;
         };
         meet(rules, closure, met, item);
@@ -87,6 +87,6 @@ fn add_rule(rules: &[u8], closure: &mut [u64], b: Symbol, r: usize)
     ensures { λ _. ⌜ now (closure .exit) ≡ putRule (viewRules (now (rules .entry))) (b .0) r (now (closure .entry)) ⌝ }
 {
     if is_current_rule_of(rules, b, r) {
-        kernels::put(closure, 0, r * 8);
+        kernels::put(closure, 0, r * kernels::DOTS);
     }
 }

@@ -20,7 +20,7 @@ pub fn symbols_after(rules: &[u8], closure: [u64; 16]) -> [u64; 2]
     let mut symbols = [0u64; 2];
     let mut from = 0;
     loop {
-        let Found::At(item) = kernels::next(&closure, 0, 16, from) else {
+        let Found::At(item) = kernels::next(&closure, 0, kernels::KERNEL_WORDS, from) else {
             return symbols;
         };
         put_after(rules, item, &mut symbols);
@@ -47,7 +47,7 @@ pub fn moved(rules: &[u8], closure: [u64; 16], x: usize) -> [u64; 16]
     let mut kernel = [0u64; 16];
     let mut from = 0;
     loop {
-        let Found::At(item) = kernels::next(&closure, 0, 16, from) else {
+        let Found::At(item) = kernels::next(&closure, 0, kernels::KERNEL_WORDS, from) else {
             return kernel;
         };
         put_moved(rules, item, x, &mut kernel);
@@ -80,7 +80,7 @@ pub fn completed_items(rules: &[u8], closure: [u64; 16]) -> Completed
     let mut accepts = false;
     let mut from = 0;
     loop {
-        let Found::At(item) = kernels::next(&closure, 0, 16, from) else {
+        let Found::At(item) = kernels::next(&closure, 0, kernels::KERNEL_WORDS, from) else {
             return Completed {
                 reductions,
                 accepts,
@@ -100,9 +100,9 @@ fn put_completed(rules: &[u8], item: usize, reductions: &mut [u64], accepts: boo
     if !ends(rules, item) {
         return accepts;
     }
-    if left(rules, item / 8).is_start() {
+    if left(rules, item / kernels::DOTS).is_start() {
         return true;
     }
-    kernels::put(reductions, 0, item / 8);
+    kernels::put(reductions, 0, item / kernels::DOTS);
     accepts
 }

@@ -29,14 +29,14 @@ fn scan(cells: &[u8], s: usize, marks: &mut [u64; 4], queue: &mut [u8; 256], n: 
     ensures { λ r. ⌜ Adds 127 (λ k. cellOf (now (cells .entry)) s (k + 1))
         (now (marks .entry)) (now (queue .entry)) n (now (marks .exit)) (now (queue .exit)) r ⌝ }
 {
-    if cells[s * 128] < table::EXPANDED {
+    if cells[s * table::ROW] < table::EXPANDED {
         return n; // not expanded: there are none
     }
     let mut n = n;
     let mut x: usize = 0;
     while x < 127 {
         x += 1;
-        n = meet(cells[s * 128 + x], marks, queue, n);
+        n = meet(cells[s * table::ROW + x], marks, queue, n);
     }
     n
 }

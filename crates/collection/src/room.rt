@@ -16,7 +16,7 @@ pub fn free_sets(cells: &[u8], sets: usize) -> usize
     let mut free = 0;
     let mut s = 0;
     while s < sets {
-        free += one_if_free(cells[s * 128]);
+        free += one_if_free(cells[s * table::ROW]);
         s += 1;
     }
     free
@@ -37,7 +37,7 @@ pub fn lowest_free(cells: &[u8], sets: usize) -> usize
 {
     let mut s = 1;
     while s < sets {
-        if cells[s * 128] == 0 {
+        if cells[s * table::ROW] == table::FREE {
             return s;
         }
         s += 1;
@@ -48,5 +48,5 @@ pub fn lowest_free(cells: &[u8], sets: usize) -> usize
 fn one_if_free(mark: u8) -> usize
     ensures { λ r. ⌜ r ≡ when (eqb mark 0) 1 0 ⌝ }
 {
-    if mark == 0 { 1 } else { 0 }
+    if mark == table::FREE { 1 } else { 0 }
 }

@@ -30,8 +30,8 @@ fn free_unless_marked(cells: &mut [u8], words: &mut [u64], marks: &[u64; 4], s: 
     if kernels::has(marks, 0, s) {
         return;
     }
-    table::clear(cells, s * 128, 128);
-    kernels::clear(words, s * 18, 18);
+    table::clear(cells, s * table::ROW, table::ROW);
+    kernels::clear(words, s * kernels::SET_WORDS, kernels::SET_WORDS);
 }
 
 // Frees each of the n rule numbers that is withdrawn.
@@ -51,7 +51,7 @@ fn free_if_withdrawn(rules: &mut [u8], r: usize)
     requires { ⌜ 2 + r * 10 + 10 ≤ length (now rules) ⌝ }
     ensures { λ _. ⌜ now (rules .exit) ≡ freeWithdrawn r (now (rules .entry)) ⌝ }
 {
-    if rules[2 + r * 10] == table::WITHDRAWN {
-        table::clear(rules, 2 + r * 10, 10);
+    if rules[table::SIZES + r * table::RULE] == table::WITHDRAWN {
+        table::clear(rules, table::SIZES + r * table::RULE, table::RULE);
     }
 }

@@ -174,7 +174,7 @@ fn sets_in_use(rules: &[u8], cells: &[u8]) -> usize
         return 0;
     }
     let sets = table::sets_in(rules);
-    if cells.len() < sets * 128 {
+    if cells.len() < sets * table::ROW {
         return 0;
     }
     collection::room::in_use(cells, sets)

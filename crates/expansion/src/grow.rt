@@ -17,7 +17,7 @@ pub fn closure_of(rules: &[u8], words: &[u64], s: usize) -> [u64; 16]
     ensures { λ r. ⌜ HoldsKernel (rulesIn (now (rules .entry))) r 0 (closure (viewRules (now (rules .entry))) (kernelSeen (rulesIn (now (rules .entry))) (now (words .entry)) (s * 18))) ⌝ }
 {
     let mut kernel = [0u64; 16];
-    kernels::copy(&mut kernel, 0, words, s * 18);
+    kernels::copy(&mut kernel, 0, words, s * kernels::SET_WORDS);
     closure::close(rules, kernel)
 }
 
@@ -85,9 +85,9 @@ fn fill(cells: &mut [u8], words: &mut [u64], s: usize, row: &[u8; 128], reductio
     requires { ⌜ (s < 255) × (s * 128 + 128 ≤ length (now cells)) × (s * 18 + 18 ≤ length (now words)) ⌝ }
     ensures { λ _. ⌜ setsOf (now (cells .exit)) (now (words .exit)) ≡ fullRow s (now (row .entry)) (now (reductions .entry)) (setsOf (now (cells .entry)) (now (words .entry))) ⌝ }
 {
-    put_row(cells, s * 128, row);
-    words[s * 18 + 16] = reductions[0];
-    words[s * 18 + 17] = reductions[1];
+    put_row(cells, s * table::ROW, row);
+    words[s * kernels::SET_WORDS + kernels::KERNEL_WORDS] = reductions[0];
+    words[s * kernels::SET_WORDS + kernels::LAST_WORD] = reductions[1];
 }
 
 // Writes a row's 128 cells from `at` on.
@@ -96,7 +96,7 @@ fn put_row(cells: &mut [u8], at: usize, row: &[u8; 128])
     ensures { λ _. ⌜ now (cells .exit) ≡ writeWords (now (cells .entry)) at (λ k. getD (now (row .entry)) k 0) 128 ⌝ }
 {
     let mut k = 0;
-    while k < 128 {
+    while k < table::ROW {
         cells[at + k] = row[k];
         k += 1;
     }

@@ -63,16 +63,16 @@ fn is_roomy(rules: &[u8], cells: &[u8], words: &[u64]) -> bool
     if n < 1 {
         return false;
     }
-    if 128 < n {
+    if table::MOST_RULES < n {
         return false;
     }
-    if rules.len() < 2 + n * 10 {
+    if rules.len() < table::SIZES + n * table::RULE {
         return false;
     }
-    if cells.len() < sets * 128 {
+    if cells.len() < sets * table::ROW {
         return false;
     }
-    if words.len() < sets * 18 {
+    if words.len() < sets * kernels::SET_WORDS {
         return false;
     }
     true
@@ -86,7 +86,7 @@ fn start_fits(rules: &[u8], cells: &[u8], words: &[u64]) -> bool
     if table::mark(cells, 0) == table::FREE {
         return false;
     }
-    let mut starts = [0u64; 18];
+    let mut starts = [0u64; kernels::SET_WORDS];
     table::put_starts(rules, &mut starts);
     kernels::equal(words, 0, &starts, 0)
 }
@@ -97,9 +97,9 @@ fn sets_fit(rules: &[u8], cells: &[u8], words: &[u64]) -> bool
     requires { ⌜ Short (now rules) ⌝ }
     ensures { λ r. ⌜ r ≡ setsFit (now (rules .entry)) (sets (now (cells .entry)) (now (words .entry))) ⌝ }
 {
-    let mut named = [0u64; 18];
+    let mut named = [0u64; kernels::SET_WORDS];
     masks::put_named(rules, &mut named, table::WITHDRAWN);
-    let mut current = [0u64; 18];
+    let mut current = [0u64; kernels::SET_WORDS];
     masks::put_named(rules, &mut current, table::CURRENT);
     sets::all_fit(cells, words, table::sets_in(rules), &named, &current)
 }

@@ -35,7 +35,7 @@ fn put_rule(rules: &[u8], mask: &mut [u64], last: u8, r: usize)
         return;
     }
     put_items(mask, r, table::len(rules, r) + 1);
-    kernels::put(mask, 0, 1024 + r);
+    kernels::put(mask, 0, kernels::ITEMS + r);
 }
 
 // Puts the items of rule r with a dot below n.
@@ -45,7 +45,7 @@ fn put_items(mask: &mut [u64], r: usize, n: usize)
 {
     let mut d: usize = 0;
     while d < n {
-        kernels::put(mask, 0, r * 8 + d);
+        kernels::put(mask, 0, r * kernels::DOTS + d);
         d += 1;
     }
 }

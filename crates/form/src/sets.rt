@@ -33,7 +33,7 @@ fn fits(cells: &[u8], words: &[u64], n: usize, named: &[u64], current: &[u64], s
     if table::ACCEPTING < mark {
         return false;
     }
-    if !kernels::within(words, s * 18, named, 0, 18) {
+    if !kernels::within(words, s * kernels::SET_WORDS, named, 0, kernels::SET_WORDS) {
         return false;
     }
     if mark < table::EXPANDED {
@@ -48,19 +48,19 @@ fn bare_fits(cells: &[u8], words: &[u64], s: usize) -> bool
     requires { ⌜ (s * 128 + 128 ≤ length (now cells)) × (s * 18 + 18 ≤ length (now words)) ⌝ }
     ensures { λ a. ⌜ a ≡ bareFits (sets (now (cells .entry)) (now (words .entry))) s ⌝ }
 {
-    if !are_zero(cells, s * 128 + 1, 127) {
+    if !are_zero(cells, s * table::ROW + 1, 127) {
         return false;
     }
-    if words[s * 18 + 16] != 0 {
+    if words[s * kernels::SET_WORDS + kernels::KERNEL_WORDS] != 0 {
         return false;
     }
-    if words[s * 18 + 17] != 0 {
+    if words[s * kernels::SET_WORDS + kernels::LAST_WORD] != 0 {
         return false;
     }
     if table::mark(cells, s) != table::FREE {
         return true;
     }
-    kernels::is_empty(words, s * 18)
+    kernels::is_empty(words, s * kernels::SET_WORDS)
 }
 
 // Whether the n cells from `at` on are zero. They are joined and tested once, so that many go at a time.
@@ -83,7 +83,13 @@ fn expanded_fits(cells: &[u8], words: &[u64], n: usize, current: &[u64], s: usiz
     requires { ⌜ (n * 128 ≤ length (now cells)) × (n * 18 ≤ length (now words)) × (s < n) × (length (now current) ≡ 18) ⌝ }
     ensures { λ a. ⌜ a ≡ expandedFits n (sets (now (cells .entry)) (now (words .entry))) (now (current .entry)) s ⌝ }
 {
-    let only = kernels::within(words, s * 18, current, 0, 16);
+    let only = kernels::within(
+        words,
+        s * kernels::SET_WORDS,
+        current,
+        0,
+        kernels::KERNEL_WORDS,
+    );
     if !reductions_fit(words, current, only, s) {
         return false;
     }
@@ -98,7 +104,13 @@ fn reductions_fit(words: &[u64], current: &[u64], only: bool, s: usize) -> bool
     if !only {
         return true;
     }
-    kernels::within(words, s * 18 + 16, current, 16, 2)
+    kernels::within(
+        words,
+        s * kernels::SET_WORDS + kernels::KERNEL_WORDS,
+        current,
+        kernels::KERNEL_WORDS,
+        kernels::REDUCTION_WORDS,
+    )
 }
 
 // Whether each of the 127 targets of set s fits.
@@ -134,7 +146,13 @@ fn target_fits(cells: &[u8], words: &[u64], n: usize, current: &[u64], only: boo
     if !only {
         return true;
     }
-    kernels::within(words, t * 18, current, 0, 16)
+    kernels::within(
+        words,
+        t * kernels::SET_WORDS,
+        current,
+        0,
+        kernels::KERNEL_WORDS,
+    )
 }
 
 // Whether no two sets in use have equal kernels.
@@ -175,7 +193,7 @@ fn differs(cells: &[u8], words: &[u64], s: usize, u: usize) -> bool
     requires { ⌜ (s * 128 + 128 ≤ length (now cells)) × (s * 18 + 18 ≤ length (now words)) × (u < s) ⌝ }
     ensures { λ a. ⌜ a ≡ kernelDiffers (sets (now (cells .entry)) (now (words .entry))) s u ⌝ }
 {
-    if kernels::equal(words, u * 18, words, s * 18) {
+    if kernels::equal(words, u * kernels::SET_WORDS, words, s * kernels::SET_WORDS) {
         table::mark(cells, u) == table::FREE
     } else {
         true

@@ -10,22 +10,22 @@ pub fn fits(rules: &[u8], cells: &[u8], words: &[u64], sets: usize, places: usiz
     if sets < 1 {
         return false;
     }
-    if 255 < sets {
+    if table::MOST_SETS < sets {
         return false;
     }
     if places < 1 {
         return false;
     }
-    if 128 < places {
+    if table::MOST_RULES < places {
         return false;
     }
-    if rules.len() < 2 + places * 10 {
+    if rules.len() < table::SIZES + places * table::RULE {
         return false;
     }
-    if cells.len() < sets * 128 {
+    if cells.len() < sets * table::ROW {
         return false;
     }
-    if words.len() < sets * 18 {
+    if words.len() < sets * kernels::SET_WORDS {
         return false;
     }
     true

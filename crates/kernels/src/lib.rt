@@ -19,6 +19,20 @@ ghost use Rattle.kernels.specs.Kernel.{holds, put, same, within, find, e
 
 pub mod word; // word.rt: the bits of one word
 
+// The words of a kernel; of a set, its kernel and its reductions; and of these the last.
+pub const KERNEL_WORDS: usize = 16;
+
+pub const REDUCTION_WORDS: usize = 2;
+
+pub const SET_WORDS: usize = 18;
+
+pub const LAST_WORD: usize = 17;
+
+// The dots of a rule, 0 to 7, and the bits of a kernel: those of a set's reductions come behind them.
+pub const DOTS: usize = 8;
+
+pub const ITEMS: usize = 1024;
+
 // The answer to `next`.
 pub enum Found {
     At(usize),
@@ -60,7 +74,7 @@ pub fn copy(words: &mut [u64], at: usize, src: &[u64], from: usize)
     ensures { λ _. ⌜ now (words .exit) ≡ writeWords (now (words .entry)) at (λ k. getD (now (src .entry)) (from + k) 0) 16 ⌝ }
 {
     let mut k = 0;
-    while k < 16 {
+    while k < KERNEL_WORDS {
         words[at + k] = src[from + k];
         k += 1;
     }
@@ -72,7 +86,7 @@ pub fn equal(a: &[u64], i: usize, b: &[u64], j: usize) -> bool
     ensures { λ r. ⌜ r ≡ same (now (a .entry)) i (now (b .entry)) j ⌝ }
 {
     let mut k = 0;
-    while k < 16 {
+    while k < KERNEL_WORDS {
         if a[i + k] != b[j + k] {
             return false;
         }
@@ -104,7 +118,7 @@ pub fn find(words: &[u64], sets: usize, key: &[u64], at: usize) -> usize
 {
     let mut s = 1;
     while s < sets {
-        if equal(words, s * 18, key, at) {
+        if equal(words, s * SET_WORDS, key, at) {
             return s;
         }
         s += 1;
@@ -145,7 +159,7 @@ pub fn count(words: &[u64], at: usize) -> usize
 {
     let mut sum = 0;
     let mut k = 0;
-    while k < 16 {
+    while k < KERNEL_WORDS {
         sum += word::ones(words[at + k]);
         k += 1;
     }
@@ -158,7 +172,7 @@ pub fn is_empty(words: &[u64], at: usize) -> bool
     ensures { λ r. ⌜ r ≡ empty (now (words .entry)) at ⌝ }
 {
     let mut k = 0;
-    while k < 16 {
+    while k < KERNEL_WORDS {
         if words[at + k] != 0 {
             return false;
         }

@@ -72,11 +72,11 @@ fn spread(
     ensures { λ r. ⌜ Spread (now (buf .entry)) links side nodes n (now (work .entry)) count (now (work .exit)) r ⌝ }
 {
     let mut c = count;
-    let mut k = links::number(buf, n * 6 + 5);
+    let mut k = links::number(buf, n * links::RECORD + links::LAST);
     while k != 0 {
-        let m = links::number(buf, k * 6 + 1);
+        let m = links::number(buf, k * links::RECORD + links::UNDER);
         c = put_on(work, side, c, nodes, m);
-        k = links::number(buf, k * 6 + 2);
+        k = links::number(buf, k * links::RECORD + links::BEFORE);
     }
     c
 }

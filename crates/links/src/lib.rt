@@ -19,6 +19,21 @@ ghost use Rattle.laws.specs.Choice.{Tells};
 ghost use Rattle.links.specs.Records.{graph, counts, putNode, putLink};
 ghost use Rattle.links.specs.Held.{Edge, Chained, Held, FindsAt, NodeOf, Adds, Cleared};
 
+// The numbers of a record.
+pub const RECORD: usize = 6;
+
+// Of a link: its source comes first, then the node under it and the link before it.
+pub const UNDER: usize = 1;
+
+pub const BEFORE: usize = 2;
+
+// Of a node: its position, its set and its last link.
+const POSITION: usize = 3;
+
+pub const SET: usize = 4;
+
+pub const LAST: usize = 5;
+
 // How many nodes and links there are; and the mark `over`, 1 if a link was asked for that the pool has no room for, else 0. It is
 // a whole word because the struct is handed from call to call: a bool's padding would be copied in pieces, which triples the time.
 pub struct Counts {
@@ -57,12 +72,12 @@ fn has_link(buf: &[u16], nodes: usize, links: usize, n: usize, m: usize) -> bool
     requires { ⌜ n < nodes ⌝ }
     ensures { λ r. ⌜ Tells r (Edge (now (buf .entry)) links n m) ⌝ }
 {
-    let mut k = number(buf, n * 6 + 5);
+    let mut k = number(buf, n * RECORD + LAST);
     while k != 0 {
-        if number(buf, k * 6 + 1) == m {
+        if number(buf, k * RECORD + UNDER) == m {
             return true;
         }
-        k = number(buf, k * 6 + 2);
+        k = number(buf, k * RECORD + BEFORE);
     }
     false
 }
@@ -80,7 +95,7 @@ fn node_of(buf: &[u16], at: &[u16], start: usize, nodes: usize, s: usize) -> usi
     if n >= nodes {
         return nodes;
     }
-    if number(buf, n * 6 + 4) != s {
+    if number(buf, n * RECORD + SET) != s {
         return nodes;
     }
     n
@@ -91,9 +106,9 @@ fn put_node(buf: &mut [u16], n: usize, p: usize, s: usize)
     requires { ⌜ (n * 6 + 5 < length (now buf)) × ((p < 65536) × (s < 65536)) ⌝ }
     ensures { λ _. ⌜ now (buf .exit) ≡ putNode (now (buf .entry)) n p s ⌝ }
 {
-    buf[n * 6 + 3] = p as u16;
-    buf[n * 6 + 4] = s as u16;
-    buf[n * 6 + 5] = 0;
+    buf[n * RECORD + POSITION] = p as u16;
+    buf[n * RECORD + SET] = s as u16;
+    buf[n * RECORD + LAST] = 0;
 }
 
 // Makes link k, from node n to node m, the last of n's.
@@ -101,11 +116,11 @@ fn put_link(buf: &mut [u16], n: usize, m: usize, k: usize)
     requires { ⌜ ((n * 6 + 5 < length (now buf)) × (k * 6 + 5 < length (now buf))) × ((n < 65536) × ((m < 65536) × (k < 65536))) ⌝ }
     ensures { λ _. ⌜ now (buf .exit) ≡ putLink (now (buf .entry)) n m k ⌝ }
 {
-    let last = buf[n * 6 + 5];
-    buf[k * 6] = n as u16;
-    buf[k * 6 + 1] = m as u16;
-    buf[k * 6 + 2] = last;
-    buf[n * 6 + 5] = k as u16;
+    let last = buf[n * RECORD + LAST];
+    buf[k * RECORD] = n as u16;
+    buf[k * RECORD + UNDER] = m as u16;
+    buf[k * RECORD + BEFORE] = last;
+    buf[n * RECORD + LAST] = k as u16;
 }
 
 // The graph of the root alone.

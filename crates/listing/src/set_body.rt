@@ -26,7 +26,7 @@ pub fn body(cells: &[u8], words: &[u64], s: usize, out: &mut [u8]) -> usize
 {
     let number = put_byte(out, 0, b'S');
     let kernel = put_spaced(out, number, s);
-    let rest = put_kernel(words, s * 18, out, kernel);
+    let rest = put_kernel(words, s * kernels::SET_WORDS, out, kernel);
     let end = put_rest(cells, words, s, out, rest);
     put_byte(out, end, b'\n')
 }
@@ -48,7 +48,7 @@ fn put_kernel(words: &[u64], at: usize, out: &mut [u8], start: usize) -> usize
     let mut end = put_letter(out, start, b'K');
     let mut from: usize = 0;
     loop {
-        let Found::At(item) = kernels::next(words, at, 16, from) else {
+        let Found::At(item) = kernels::next(words, at, kernels::KERNEL_WORDS, from) else {
             return end;
         };
         end = put_item(out, end, item);
@@ -61,9 +61,9 @@ fn put_item(out: &mut [u8], at: usize, item: usize) -> usize
     requires { ⌜ (item < 1024) × (at + 9 ≤ length (now out)) ⌝ }
     ensures { λ r. ⌜ Puts (now (out .entry)) at (now (out .exit)) r (itemOf item) ⌝ }
 {
-    let point = put_spaced(out, at, item / 8);
+    let point = put_spaced(out, at, item / kernels::DOTS);
     let dot = put_byte(out, point, b'.');
-    put_number(out, dot, item % 8)
+    put_number(out, dot, item % kernels::DOTS)
 }
 
 // Puts what an expanded set has beside its kernel, and nothing for an unexpanded one.
@@ -76,7 +76,12 @@ fn put_rest(cells: &[u8], words: &[u64], s: usize, out: &mut [u8], at: usize) ->
         return at;
     }
     let reductions = put_transitions(cells, s, out, at);
-    let accept = put_reductions(words, s * 18 + 16, out, reductions);
+    let accept = put_reductions(
+        words,
+        s * kernels::SET_WORDS + kernels::KERNEL_WORDS,
+        out,
+        reductions,
+    );
     put_accept(out, accept, m)
 }
 
@@ -87,7 +92,7 @@ fn put_transitions(cells: &[u8], s: usize, out: &mut [u8], start: usize) -> usiz
 {
     let mut end = put_letter(out, start, b'T');
     let mut x: usize = 1;
-    while x < 128 {
+    while x < table::ROW {
         end = put_transition(cells, s, x, out, end);
         x += 1;
     }

@@ -19,8 +19,8 @@ fn make(cells: &mut [u8], words: &mut [u64], t: usize, key: &[u64])
     requires { ⌜ (t < 256) × (t * 128 + 128 ≤ length (now cells)) × (t * 18 + 18 ≤ length (now words)) × (16 ≤ length (now key)) ⌝ }
     ensures { λ _. ⌜ setsOf (now (cells .exit)) (now (words .exit)) ≡ made t (now (key .entry)) (setsOf (now (cells .entry)) (now (words .entry))) ⌝ }
 {
-    cells[t * 128] = table::UNEXPANDED;
-    kernels::copy(words, t * 18, key, 0);
+    cells[t * table::ROW] = table::UNEXPANDED;
+    kernels::copy(words, t * kernels::SET_WORDS, key, 0);
 }
 
 // The set with the kernel in the key's first 16 words, or 0: no transition leads to set 0. The sets' cells don't matter: a free set's

@@ -27,9 +27,6 @@ use symbols::Answer;
 mod refusals; // refusals.rt: what is refused before anything is touched
 mod line; // line.rt: the positions of a line, one after the other
 
-// The numbers of the link buffer that a record takes: a pool of n links needs n + 1 records.
-pub const RECORD: usize = 6;
-
 // What a parse answers: its answer, and the number of links in the graph at the end, 0 on a refusal.
 pub struct Verdict {
     pub answer: Answer,
@@ -70,7 +67,7 @@ fn run(
         (mem (now (rules .exit)) (now (cells .exit)) (now (words .exit))) v
         × Cleared (numbersFor pool) (now (links .entry)) (now (links .exit)) ⌝ }
 {
-    let n = (pool + 1) * RECORD;
+    let n = (pool + 1) * links::RECORD;
     let mut at: [u16; 256] = [0; 256];
     let mut work: [u16; levels::WORK] = [0; levels::WORK];
     let v = line::read(

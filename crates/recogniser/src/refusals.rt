@@ -2,7 +2,6 @@ ghost use mathlib.Core.Path.{_≡_};
 ghost use Rattle.theory.specs.Calls.{allTokens};
 ghost use Rattle.table.specs.Layout.{mem};
 ghost use Rattle.recogniser.specs.Check.{Checks};
-use super::RECORD;
 use symbols::Answer;
 use symbols::Symbol;
 
@@ -34,7 +33,7 @@ pub fn check(
     if pool > MOST_LINKS {
         return Checked::Refused(Answer::BadPool);
     }
-    if room < (pool + 1) * RECORD {
+    if room < (pool + 1) * links::RECORD {
         return Checked::Refused(Answer::BadPool);
     }
     if line.len() > MOST_TOKENS {

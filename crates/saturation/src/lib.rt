@@ -43,8 +43,8 @@ fn link_to(
     requires { ⌜ (here .sets * 128 ≤ length (now cells)) × Targets (here .sets) (now cells) ⌝ }
     ensures { λ r. ⌜ Does here (ToNode (now (buf .entry)) (now (cells .entry)) (here .position) x m) (graph (now (buf .entry)) (now (at .entry)) c) (graph (now (buf .exit)) (now (at .exit)) r) ⌝ }
 {
-    let t = links::number(buf, m * 6 + 4);
-    let s = cells[t * 128 + x] as usize;
+    let t = links::number(buf, m * links::RECORD + links::SET);
+    let s = cells[t * table::ROW + x] as usize;
     if s == 0 {
         return c;
     }
@@ -108,10 +108,15 @@ fn next_reduction(words: &[u64], u: usize, from: usize) -> usize
     requires { ⌜ (u ≤ 255) × ((from ≤ 128) × (u * 18 + 18 ≤ length (now words))) ⌝ }
     ensures { λ r. ⌜ NextRule (now (words .entry)) u from r ⌝ }
 {
-    let f = kernels::next(words, u * 18, 18, 1024 + from);
+    let f = kernels::next(
+        words,
+        u * kernels::SET_WORDS,
+        kernels::SET_WORDS,
+        kernels::ITEMS + from,
+    );
     match f {
-        Found::At(i) => i - 1024,
-        Found::Nothing => 128,
+        Found::At(i) => i - kernels::ITEMS,
+        Found::Nothing => table::MOST_RULES,
     }
 }
 
@@ -132,10 +137,10 @@ fn reduce_node(
     requires { ⌜ (n < c .nodes) × (here .start ≤ n) ⌝ }
     ensures { λ d. ⌜ Works (view (mem (now (rules .entry)) (now (cells .entry)) (now (words .entry)))) here (AtNode (mem (now (rules .entry)) (now (cells .entry)) (now (words .entry))) (here .position) n 128) (graph (now (buf .entry)) (now (at .entry)) c) (graph (now (buf .exit)) (now (at .exit)) d) ⌝ }
 {
-    let u = links::number(buf, n * 6 + 4);
+    let u = links::number(buf, n * links::RECORD + links::SET);
     let mut d = c;
     let mut r = next_reduction(words, u, 0);
-    while r < 128 {
+    while r < table::MOST_RULES {
         d = reduce(buf, at, work, rules, cells, words, d, here, n, r);
         r = next_reduction(words, u, r + 1);
     }
@@ -252,8 +257,8 @@ fn has_mark(buf: &[u16], cells: &[u8], lo: usize, hi: usize, sets: usize, k: usi
 {
     let mut m = lo;
     while m < hi {
-        let u = links::number(buf, m * 6 + 4);
-        if cells[u * 128] as usize == k {
+        let u = links::number(buf, m * links::RECORD + links::SET);
+        if cells[u * table::ROW] as usize == k {
             return true;
         }
         m += 1;
@@ -283,8 +288,8 @@ fn lower(buf: &[u16], cells: &[u8], sets: usize, m: usize, best: usize) -> usize
     requires { ⌜ inSet (now buf) m < sets ⌝ }
     ensures { λ r. ⌜ Lower (now (buf .entry)) (now (cells .entry)) m best r ⌝ }
 {
-    let u = links::number(buf, m * 6 + 4);
-    if cells[u * 128] != 1 {
+    let u = links::number(buf, m * links::RECORD + links::SET);
+    if cells[u * table::ROW] != table::UNEXPANDED {
         return best;
     }
     if u < best {

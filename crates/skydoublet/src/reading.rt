@@ -14,13 +14,13 @@ pub extern "C" fn skydoublet_rule_number(rules: &[u8], r: usize, k: usize) -> u8
     if rules.len() < 12 {
         return 0;
     }
-    if (rules.len() - 2) / 10 <= r {
+    if (rules.len() - table::SIZES) / table::RULE <= r {
         return 0;
     }
-    if 10 <= k {
+    if table::RULE <= k {
         return 0;
     }
-    rules[2 + r * 10 + k]
+    rules[table::SIZES + r * table::RULE + k]
 }
 
 // How many sets are in use, 0 where the slices are too short.
@@ -32,7 +32,7 @@ pub extern "C" fn skydoublet_sets_in_use(rules: &[u8], cells: &[u8]) -> usize
         return 0;
     }
     let sets = table::sets_in(rules);
-    if cells.len() / 128 < sets {
+    if cells.len() / table::ROW < sets {
         return 0;
     }
     collection::room::in_use(cells, sets)
@@ -43,7 +43,7 @@ pub extern "C" fn skydoublet_sets_in_use(rules: &[u8], cells: &[u8]) -> usize
 pub extern "C" fn skydoublet_mark(cells: &[u8], s: usize) -> u8
     ensures { λ r. ⌜ Told (Holds (now (cells .entry)) s 128) r (getD (now (cells .entry)) (s * 128 + 0) 0) 0 ⌝ }
 {
-    if cells.len() / 128 <= s {
+    if cells.len() / table::ROW <= s {
         return 0;
     }
     table::mark(cells, s)
@@ -54,13 +54,13 @@ pub extern "C" fn skydoublet_mark(cells: &[u8], s: usize) -> u8
 pub extern "C" fn skydoublet_target(cells: &[u8], s: usize, x: usize) -> usize
     ensures { λ r. ⌜ Told (Holds (now (cells .entry)) s 128 × (1 ≤ x) × (x < 128)) r (getD (now (cells .entry)) (s * 128 + x) 0) 0 ⌝ }
 {
-    if cells.len() / 128 <= s {
+    if cells.len() / table::ROW <= s {
         return 0;
     }
     if x < 1 {
         return 0;
     }
-    if 128 <= x {
+    if table::ROW <= x {
         return 0;
     }
     table::target(cells, s, x)
@@ -71,10 +71,15 @@ pub extern "C" fn skydoublet_target(cells: &[u8], s: usize, x: usize) -> usize
 pub extern "C" fn skydoublet_next_item(words: &[u64], s: usize, from: usize) -> usize
     ensures { λ r. ⌜ ToldNext (now (words .entry)) s 0 16 from r ⌝ }
 {
-    if words.len() / 18 <= s {
-        return 1024;
+    if words.len() / kernels::SET_WORDS <= s {
+        return kernels::ITEMS;
     }
-    next(words, s * 18 + 0, 16, from)
+    next(
+        words,
+        s * kernels::SET_WORDS + 0,
+        kernels::KERNEL_WORDS,
+        from,
+    )
 }
 
 // The lowest rule that set s reduces and that is not below `from`, 128 where there is none.
@@ -82,10 +87,15 @@ pub extern "C" fn skydoublet_next_item(words: &[u64], s: usize, from: usize) -> 
 pub extern "C" fn skydoublet_next_reduction(words: &[u64], s: usize, from: usize) -> usize
     ensures { λ r. ⌜ ToldNext (now (words .entry)) s 16 2 from r ⌝ }
 {
-    if words.len() / 18 <= s {
-        return 128;
+    if words.len() / kernels::SET_WORDS <= s {
+        return table::MOST_RULES;
     }
-    next(words, s * 18 + 16, 2, from)
+    next(
+        words,
+        s * kernels::SET_WORDS + kernels::KERNEL_WORDS,
+        kernels::REDUCTION_WORDS,
+        from,
+    )
 }
 
 // The next bit of n words as a number, n * 64 where there is none.

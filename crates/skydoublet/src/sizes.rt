@@ -10,10 +10,10 @@ pub extern "C" fn skydoublet_rules_for(places: usize) -> usize
     if places < 1 {
         return 0;
     }
-    if 128 < places {
+    if table::MOST_RULES < places {
         return 0;
     }
-    2 + places * 10
+    table::SIZES + places * table::RULE
 }
 
 // The numbers of `cells` that so many sets need.
@@ -24,10 +24,10 @@ pub extern "C" fn skydoublet_cells_for(sets: usize) -> usize
     if sets < 1 {
         return 0;
     }
-    if 255 < sets {
+    if table::MOST_SETS < sets {
         return 0;
     }
-    sets * 128
+    sets * table::ROW
 }
 
 // The numbers of `words` that so many sets need.
@@ -38,10 +38,10 @@ pub extern "C" fn skydoublet_words_for(sets: usize) -> usize
     if sets < 1 {
         return 0;
     }
-    if 255 < sets {
+    if table::MOST_SETS < sets {
         return 0;
     }
-    sets * 18
+    sets * kernels::SET_WORDS
 }
 
 // The numbers of the link buffer that a pool of so many links needs.
@@ -52,5 +52,5 @@ pub extern "C" fn skydoublet_links_for(pool: usize) -> usize
     if 4096 < pool {
         return 0;
     }
-    (pool + 1) * recogniser::RECORD
+    (pool + 1) * links::RECORD
 }

@@ -8,6 +8,23 @@ ghost use lib.ListN.{length};
 ghost use Rattle.table.specs.Layout.{setsIn, rulesIn, ruleNumber};
 ghost use Rattle.table.specs.Write.{ruleIn, tenOf, putRule};
 
+// "Pools: 1 to 255 sets, 1 to 128 rules"
+pub const MOST_SETS: usize = 255;
+
+pub const MOST_RULES: usize = 128;
+
+// How many numbers the sizes are, and how many a rule.
+pub const SIZES: usize = 2;
+
+pub const RULE: usize = 10;
+
+// Where rule 0 has its left symbol, its length and its first right place; its state is the first number behind the sizes.
+pub const LEFT: usize = 3;
+
+pub const LENGTH: usize = 4;
+
+pub const RIGHT: usize = 5;
+
 // "A number is current, withdrawn or free." 0 is also the mark of a set that is free.
 pub const FREE: u8 = 0;
 
@@ -36,7 +53,7 @@ pub fn state(rules: &[u8], r: usize) -> u8
     requires { ⌜ 2 + r * 10 + 10 ≤ length (now rules) ⌝ }
     ensures { λ x. ⌜ x ≡ ruleNumber (now (rules .entry)) r 0 ⌝ }
 {
-    rules[2 + r * 10]
+    rules[SIZES + r * RULE]
 }
 
 // The left symbol of rule r.
@@ -44,7 +61,7 @@ pub fn left(rules: &[u8], r: usize) -> usize
     requires { ⌜ 2 + r * 10 + 10 ≤ length (now rules) ⌝ }
     ensures { λ x. ⌜ x ≡ ruleNumber (now (rules .entry)) r 1 ⌝ }
 {
-    wide(rules[2 + r * 10 + 1])
+    wide(rules[SIZES + r * RULE + 1])
 }
 
 // How many symbols the right side of rule r has.
@@ -52,7 +69,7 @@ pub fn len(rules: &[u8], r: usize) -> usize
     requires { ⌜ 2 + r * 10 + 10 ≤ length (now rules) ⌝ }
     ensures { λ x. ⌜ x ≡ ruleNumber (now (rules .entry)) r 2 ⌝ }
 {
-    wide(rules[2 + r * 10 + 2])
+    wide(rules[SIZES + r * RULE + 2])
 }
 
 // Rule r as a record, whatever its state.
@@ -60,7 +77,7 @@ pub fn rule(rules: &[u8], r: usize) -> Rule
     requires { ⌜ 2 + r * 10 + 10 ≤ length (now rules) ⌝ }
     ensures { λ x. ⌜ x ≡ ruleIn (now (rules .entry)) r ⌝ }
 {
-    let at = 2 + r * 10;
+    let at = SIZES + r * RULE;
     let places = [
         Symbol(rules[at + 3]),
         Symbol(rules[at + 4]),
@@ -82,9 +99,9 @@ pub fn put_rule(rules: &mut [u8], r: usize, state: u8, x: Rule)
     requires { ⌜ 2 + r * 10 + 10 ≤ length (now rules) ⌝ }
     ensures { λ _. ⌜ now (rules .exit) ≡ putRule (now (rules .entry)) r state x ⌝ }
 {
-    let at = 2 + r * 10;
+    let at = SIZES + r * RULE;
     let mut k: usize = 0;
-    while k < 10 {
+    while k < RULE {
         rules[at + k] = number(state, x, k);
         k += 1;
     }

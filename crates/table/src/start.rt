@@ -30,7 +30,7 @@ fn put_start(rules: &[u8], words: &mut [u64], r: usize)
     ensures { λ _. ⌜ now (words .exit) ≡ putStart (now (rules .entry)) r (now (words .entry)) ⌝ }
 {
     if is_start(rules, r) {
-        kernels::put(words, 0, r * 8);
+        kernels::put(words, 0, r * kernels::DOTS);
     }
 }
 
