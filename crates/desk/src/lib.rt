@@ -1,9 +1,9 @@
 // The desk: one command line answered, over the pools that the program keeps.
 //
-// `answer` takes a line without its newline, the numbers of the table and the link buffer, and puts the line's text into a lent
-// output buffer. It goes three steps: `script::read` says which command the line is, `obey` makes the call and says what there
-// is to print (a `Reply`), `put` puts the reply's text. What a line means and how it is printed is `script`'s and `listing`'s,
-// what a command does the calls' below.
+// `answer` takes a line, with its newline if it has one, the numbers of the table and the link buffer, and puts the line's text
+// into a lent output buffer. It goes three steps: `script::read` says which command the line is, `obey` makes the call and says
+// what there is to print (a `Reply`), `put` puts the reply's text. What a line means and how it is printed is `script`'s and
+// `listing`'s, what a command does the calls' below.
 //
 // The desk starts without a table: all numbers zero, which is not in form, so its calls answer 11 until a good N. The sizes of
 // the pools are here, for "at most 128, 128 and 1,024"; an N within that takes the part that it asks for. The output buffer
