@@ -16,11 +16,11 @@ ghost use Rattle.desk.specs.Reply.{textOf, Printable};
 ghost use Rattle.desk.specs.Obeys.{here, state, Makes, Changes, Parsed, Collects, Lists};
 
 // "Here at most 128, 128 and 1,024": what the desk's pools hold.
-const MOST_SETS: usize = 128;
+pub const MOST_SETS: usize = 128;
 
-const MOST_RULES: usize = 128;
+pub const MOST_RULES: usize = 128;
 
-const MOST_LINKS: usize = 1024;
+pub const MOST_LINKS: usize = 1024;
 
 // What N leaves beside the numbers of the table: its answer, and the size of the link pool from then on.
 pub struct Made {

@@ -23,10 +23,10 @@ pub use obey::answer;
 pub use reply::ROOM;
 
 // The numbers that a table of 128 sets and 128 rules takes, and a link pool of 1,024.
-pub const RULES: usize = 1282;
+pub const RULES: usize = table::SIZES + calls::MOST_RULES * table::RULE;
 
-pub const CELLS: usize = 16384;
+pub const CELLS: usize = calls::MOST_SETS * table::ROW;
 
-pub const WORDS: usize = 2304;
+pub const WORDS: usize = calls::MOST_SETS * kernels::SET_WORDS;
 
-pub const LINKS: usize = 6150;
+pub const LINKS: usize = (calls::MOST_LINKS + 1) * links::RECORD;

@@ -1,3 +1,4 @@
+// The contents line of a listing.
 use script::put_byte;
 use script::put_spaced;
 use table::EXPANDED;

@@ -12,8 +12,8 @@
 //
 // specs/Printed.antt has what `L` prints of a table, specs/Walk.antt the same texts by the numbers, as the code walks them;
 // proofs/Seen.antt proves the two the same.
-mod contents_line;
-mod set_body;
+mod contents_line; // contents_line.rt: the contents line
+mod set_body; // set_body.rt: the body of one set
 
 pub use contents_line::contents;
 pub use set_body::body;

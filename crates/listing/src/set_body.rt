@@ -1,3 +1,4 @@
+// The body of one set in a listing.
 use kernels::Found;
 use script::put_byte;
 use script::put_number;
@@ -121,7 +122,7 @@ fn put_reductions(words: &[u64], at: usize, out: &mut [u8], start: usize) -> usi
     let mut end = put_letter(out, start, b'R');
     let mut from: usize = 0;
     loop {
-        let Found::At(r) = kernels::next(words, at, 2, from) else {
+        let Found::At(r) = kernels::next(words, at, kernels::REDUCTION_WORDS, from) else {
             return end;
         };
         end = put_spaced(out, end, r);

@@ -1,10 +1,11 @@
-// The set with a kernel: "the transition on X leads to the set with that kernel, or to a new unexpanded set at the lowest free set number".
+// The set with a kernel: "the transition on X leads to the set with that kernel, or to a new unexpanded set at the lowest free
+// set number".
 //
-// `find` compares the key with the kernel of each set but 0, word by word, and stops at the first that is equal; it reads no mark. `find_or_make`
-// adds, where there is none, a pass over the marks and the writing of one mark and 16 words.
+// `find` compares the key with the kernel of each set but 0, word by word, and stops at the first that is equal; it reads no
+// mark. `find_or_make` adds, where there is none, a pass over the marks and the writing of one mark and 16 words.
 //
-// The key is a kernel that is not empty, in 16 words that stand by themselves. Then a free set, whose words are zero, is never taken for
-// the one looked for. `find_or_make` asks for room: some set has the kernel, or a number is free.
+// The key is a kernel that is not empty, in 16 words that stand by themselves. Then a free set, whose words are zero, is never
+// taken for the one looked for. `find_or_make` asks for room: some set has the kernel, or a number is free.
 ghost use mathlib.Core.Path.{_≡_};
 ghost use mathlib.Core.List.{List};
 ghost use Prim.Native.Nat.{ℕ, _+_, _*_, _≤_, _<_};

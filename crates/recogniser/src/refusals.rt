@@ -1,3 +1,4 @@
+// What Parse refuses before anything is touched: 11, 10, 18, 19, in this order.
 ghost use mathlib.Core.Path.{_≡_};
 ghost use Rattle.theory.specs.Calls.{allTokens};
 ghost use Rattle.table.specs.Layout.{mem};

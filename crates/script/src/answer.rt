@@ -1,3 +1,4 @@
+// The line that is printed for an answer.
 use super::put::put_byte;
 use super::put::put_number;
 use super::put::put_spaced;

@@ -1,3 +1,4 @@
+// A line read to the command that it asks for.
 use super::cursor::Cursor;
 use super::cursor::Letter;
 use super::numbers::Count;

@@ -1,3 +1,4 @@
+// The script cursor: a place in a line, and the steps that read on from it.
 ghost use mathlib.Core.Path.{_≡_};
 ghost use Prim.Native.Nat.{_<_};
 ghost use lib.ListN.{drop};

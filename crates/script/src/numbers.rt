@@ -1,3 +1,4 @@
+// The numbers of a line, up to its end.
 use super::cursor::Cursor;
 use super::cursor::LineEnd;
 use super::cursor::Number;

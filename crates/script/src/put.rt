@@ -1,3 +1,4 @@
+// Bytes and numbers put into a lent text.
 ghost use mathlib.Core.List.{[], _∷_};
 ghost use Prim.Native.Nat.{_+_, _≤_, _<_};
 ghost use lib.ListN.{length};
