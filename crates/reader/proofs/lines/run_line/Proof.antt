@@ -1,9 +1,9 @@
 -- `run_line` meets its contract. Assumes nothing.
 use native.Mathlib.Omega.{arith}
 use borrow.Author.Needs.{needs}
-use Rattle.scripts.proofs.Inside.{puts-inside}
-use Rattle.scripts.proofs.lines.run_line.Statement.{statement}
-use Rattle.scripts.proofs.lines.run_line.Tie as tie
+use Rattle.reader.proofs.Inside.{puts-inside}
+use Rattle.reader.proofs.lines.run_line.Statement.{statement}
+use Rattle.reader.proofs.lines.run_line.Tie as tie
 
 ready-requires : tie.Need-ready-requires
 ready-requires c κs = search needs

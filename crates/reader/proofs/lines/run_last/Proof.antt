@@ -4,9 +4,9 @@ use mathlib.Core.List.{[]}
 use native.Mathlib.Omega.{arith}
 use lib.ListN.{length-take}
 use borrow.Author.Needs.{needs}
-use Rattle.scripts.proofs.Waiting.{waits-none, puts-wait}
-use Rattle.scripts.proofs.lines.run_last.Statement.{statement}
-use Rattle.scripts.proofs.lines.run_last.Tie as tie
+use Rattle.reader.proofs.Waiting.{waits-none, puts-wait}
+use Rattle.reader.proofs.lines.run_last.Statement.{statement}
+use Rattle.reader.proofs.lines.run_last.Tie as tie
 
 returns : tie.Need-returns
 returns c = record { printed = []; ended = λ _. (refl, refl); last = λ n. absurd (n (omega (arith, c .if1 .taken))); waits = waits-none _ _ (c .before .before .before .before .before .before .before .pre .3) }

@@ -4,9 +4,9 @@ use Prim.Native.Nat.{_-_, _≤_}
 use native.Mathlib.Omega.{arith}
 use lib.ListN.{take, drop}
 use borrow.Author.Needs.{needs}
-use Rattle.scripts.proofs.Rest.{Moved, moved-none, moved-more}
-use Rattle.scripts.proofs.lines.keep_rest.Statement.{statement}
-use Rattle.scripts.proofs.lines.keep_rest.Tie as tie
+use Rattle.reader.proofs.Rest.{Moved, moved-none, moved-more}
+use Rattle.reader.proofs.lines.keep_rest.Statement.{statement}
+use Rattle.reader.proofs.lines.keep_rest.Tie as tie
 
 abbrev Inv-loop : tie.InvT-loop
 Inv-loop text₀ at end n i₀ text i = (i ≤ n) × Moved text₀ at i text

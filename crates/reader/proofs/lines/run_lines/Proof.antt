@@ -9,12 +9,12 @@ use Rattle.table.specs.Layout.{mem}
 use Rattle.script.specs.Text.{NEWLINE}
 use Rattle.bytes.specs.Bytes.{indexOf, slice}
 use Rattle.desk.specs.Obeys.{state}
-use Rattle.scripts.specs.Lines.{RanText}
-use Rattle.scripts.specs.Lines.Run.{none}
-use Rattle.scripts.proofs.Waiting.{waits-none}
-use Rattle.scripts.proofs.Running.{turn, ended}
-use Rattle.scripts.proofs.lines.run_lines.Statement.{statement}
-use Rattle.scripts.proofs.lines.run_lines.Tie as tie
+use Rattle.reader.specs.Lines.{RanText}
+use Rattle.reader.specs.Lines.Run.{none}
+use Rattle.reader.proofs.Waiting.{waits-none}
+use Rattle.reader.proofs.Running.{turn, ended}
+use Rattle.reader.proofs.lines.run_lines.Statement.{statement}
+use Rattle.reader.proofs.lines.run_lines.Tie as tie
 
 abbrev Inv-loop : tie.InvT-loop
 Inv-loop text n rules₀ cells₀ words₀ links₀ out₀ now₀ at₀ end₀ rules cells words links out now at end =

@@ -1,8 +1,8 @@
--- `run_all` meets its contract. Assumes nothing.
+-- `main` meets its contract. Assumes nothing.
 use Prim.Native.Nat.{_-_, _≤_}
 use borrow.Author.Needs.{needs}
-use Rattle.scripts.proofs.run_all.Statement.{statement}
-use Rattle.scripts.proofs.run_all.Tie as tie
+use Rattle.reader.proofs.main.Statement.{statement}
+use Rattle.reader.proofs.main.Tie as tie
 
 abbrev Inv-loop : tie.InvT-loop
 Inv-loop n i₀ i = i ≤ n
@@ -40,8 +40,8 @@ loop-again c = search needs
 returns-2 : tie.Need-returns-2 Inv-loop μ-loop
 returns-2 c = search needs
 
-pub run-all-spec : {M : Type 1} → statement M
-run-all-spec =
+pub main-spec : {M : Type 1} → statement M
+main-spec =
     tie.close
     (tie.spec
     Inv-loop

@@ -8,10 +8,10 @@ use lib.Seq.{take-all, take-nil, take-take, take-add}
 use Rattle.bytes.specs.Bytes.{indexOf, slice}
 use Rattle.script.specs.Text.{NEWLINE}
 use Rattle.desk.specs.Obeys.{State, Answers}
-use Rattle.scripts.specs.Lines.{Unbroken, RanLine, RanText}
-use Rattle.scripts.specs.Lines.Run.{line}
-use Rattle.scripts.proofs.Newlines.{First, first}
-use Rattle.scripts.proofs.Waiting.{puts-wait, waits-then}
+use Rattle.reader.specs.Lines.{Unbroken, RanLine, RanText}
+use Rattle.reader.specs.Lines.Run.{line}
+use Rattle.reader.proofs.Newlines.{First, first}
+use Rattle.reader.proofs.Waiting.{puts-wait, waits-then}
 
 drop-take : (m n : ℕ) (l : List ℕ) → drop m (take n l) ≡ take (n - m) (drop m l)
 drop-take zero n l = let e : n - 0 ≡ n = omega arith in sym (ap (λ i. take i l) e)

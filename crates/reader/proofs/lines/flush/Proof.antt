@@ -2,8 +2,8 @@
 use native.Mathlib.Omega.{arith}
 use lib.ListN.{length-take}
 use borrow.Author.Needs.{needs}
-use Rattle.scripts.proofs.lines.flush.Statement.{statement}
-use Rattle.scripts.proofs.lines.flush.Tie as tie
+use Rattle.reader.proofs.lines.flush.Statement.{statement}
+use Rattle.reader.proofs.lines.flush.Tie as tie
 
 slice-aggregate-write-all : tie.Need-slice-aggregate-write-all
 slice-aggregate-write-all c = omega (arith, c .before .before .pre, length-take (c .before .before .args .used) (c .before .before .args .out .now))

@@ -10,7 +10,7 @@ ghost use Prim.Native.Nat.{_+_, _≤_, min};
 ghost use lib.ListN.{length};
 ghost use Rattle.table.specs.Layout.{mem};
 ghost use Rattle.desk.specs.Obeys.{state};
-ghost use Rattle.scripts.specs.Lines.{Ready, RanLine, RanLines, RanLast, KeptRest};
+ghost use Rattle.reader.specs.Lines.{Ready, RanLine, RanLines, RanLast, KeptRest};
 
 // The longest line that can be good: a letter, 256 numbers of four digits, each after a space, and a newline.
 const LONGEST: usize = 1282;
@@ -31,7 +31,7 @@ struct Ran {
 }
 
 // Runs the script that fd brings, to its end.
-pub fn run(fd: i32, name: &[u8]) {
+pub(crate) fn run(fd: i32, name: &[u8]) {
     let mut rules_space = [0u8; desk::RULES];
     let rules: &mut [u8] = &mut rules_space;
     let mut cells_space = [0u8; desk::CELLS];

@@ -4,8 +4,8 @@ use Prim.Native.Nat.{ℕ, _≤_}
 use native.Mathlib.Omega.{arith}
 use lib.ListN.{length, length-replicate}
 use borrow.Author.Needs.{needs}
-use Rattle.scripts.proofs.lines.run.Statement.{statement}
-use Rattle.scripts.proofs.lines.run.Tie as tie
+use Rattle.reader.proofs.lines.run.Statement.{statement}
+use Rattle.reader.proofs.lines.run.Tie as tie
 
 abbrev Inv-loop : tie.InvT-loop
 Inv-loop fd name rules₀ cells₀ words₀ links₀ out₀ text₀ kept₀ held₀ end₀ turns₀ rules cells words links out text kept held end turns =
