@@ -1,4 +1,6 @@
 // The table that the cases start from: seven sets and five places for rules, and numbers beyond the pools that are not zero.
+use script::Cursor;
+use script::Number;
 
 // What the pools need, and a few numbers more.
 pub const RULES: usize = 2 + 10 * 5 + 3;
@@ -10,13 +12,6 @@ pub const WORDS: usize = 18 * 7 + 2;
 pub const LINKS: usize = 6 * (POOL + 1) + 4;
 
 pub const POOL: usize = 8;
-
-// Where a number is written: a number of the rules' slice, a cell, or a bit of the words.
-pub const RULE: usize = 0;
-
-pub const CELL: usize = 1;
-
-pub const BIT: usize = 2;
 
 // Makes the table by calls. Rules 0: 64 -> 65, 1: 65 -> 1, 2: 65 -> 2 withdrawn, 3: 64 -> 3; 4 is free. Sets:
 //
@@ -34,42 +29,52 @@ pub fn make(rules: &mut [u8], cells: &mut [u8], words: &mut [u64]) {
 }
 
 fn add_rules(rules: &mut [u8], cells: &mut [u8], words: &mut [u64]) {
-    add(rules, cells, words, 64, &[65]);
-    add(rules, cells, words, 65, &[1]);
-    add(rules, cells, words, 65, &[2]);
-    add(rules, cells, words, 64, &[3]);
+    add(rules, cells, words, 64, 65);
+    add(rules, cells, words, 65, 1);
+    add(rules, cells, words, 65, 2);
+    add(rules, cells, words, 64, 3);
 }
 
 // The line 2 expands the set that stays over once its rule is withdrawn.
 fn read_lines(rules: &mut [u8], cells: &mut [u8], words: &mut [u64]) {
-    read(rules, cells, words, &[2]);
+    read(rules, cells, words, 2);
     generator::delete(rules, cells, words, 65, &[2]);
-    read(rules, cells, words, &[1]);
+    read(rules, cells, words, 1);
 }
 
-fn add(rules: &mut [u8], cells: &mut [u8], words: &mut [u64], left: u8, right: &[u8]) {
-    generator::add(rules, cells, words, left, right);
+fn add(rules: &mut [u8], cells: &mut [u8], words: &mut [u64], left: u8, right: u8) {
+    generator::add(rules, cells, words, left, &[right]);
 }
 
-fn read(rules: &mut [u8], cells: &mut [u8], words: &mut [u64], line: &[u8]) {
+fn read(rules: &mut [u8], cells: &mut [u8], words: &mut [u64], token: u8) {
     let mut links = [0u16; LINKS];
-    recogniser::parse(rules, cells, words, &mut links, POOL, line);
+    recogniser::parse(rules, cells, words, &mut links, POOL, &[token]);
 }
 
-// Writes the numbers over: slice, place and number of each, three after three.
-pub fn write_over(rules: &mut [u8], cells: &mut [u8], words: &mut [u64], numbers: &[usize]) {
-    let mut i: usize = 0;
-    while i + 3 <= numbers.len() {
-        write(
-            rules,
-            cells,
-            words,
-            numbers[i],
-            numbers[i + 1],
-            numbers[i + 2],
-        );
-        i += 3;
+// Writes the numbers over that stand in the line from `start` on: slice, place and number of each, three after three. Says
+// whether nothing else stands there.
+pub fn write_over(
+    rules: &mut [u8],
+    cells: &mut [u8],
+    words: &mut [u64],
+    line: &[u8],
+    start: Cursor,
+) -> bool {
+    let mut c = start;
+    while c.at < line.len() {
+        let Number::Is(slice, second) = c.number(line) else {
+            return false;
+        };
+        let Number::Is(place, third) = second.number(line) else {
+            return false;
+        };
+        let Number::Is(number, after) = third.number(line) else {
+            return false;
+        };
+        write(rules, cells, words, slice, place, number);
+        c = after;
     }
+    true
 }
 
 fn write(
@@ -81,8 +86,8 @@ fn write(
     number: usize,
 ) {
     match slice {
-        RULE => write_byte(rules, place, number),
-        CELL => write_byte(cells, place, number),
+        0 => write_byte(rules, place, number),
+        1 => write_byte(cells, place, number),
         _ => write_bit(words, place, number),
     }
 }

@@ -13,11 +13,9 @@
 // but New answers 11 and leaves everything. The file stdout, which the lines are held to, was made by the reference on the same
 // numbers.
 mod base; // base.rt: the table that the cases start from, and the numbers written over it
-mod out_of_form; // out_of_form.rt: a case for each clause of the form
-mod strange; // strange.rt: cases in form
+mod cases; // cases.rt: the cases, from the file stdin
 mod tried; // tried.rt: every call on a table
 
 fn main() {
-    strange::all();
-    out_of_form::all();
+    cases::all();
 }

@@ -1,23 +1,28 @@
 // Every call on a table, each on a copy of its own; prints the line.
 use super::base;
+use generator::Changed;
+use script::Cursor;
+use symbols::Answer;
 
-// Writes the numbers over the made table and tries every call on it.
-pub fn case(name: &[u8], numbers: &[usize]) {
+// Writes the numbers of the line over the made table and tries every call on it; says whether the line can be read.
+pub fn case(line: &[u8], start: Cursor) -> bool {
     let mut rules = [7u8; base::RULES];
     let mut cells = [7u8; base::CELLS];
     let mut words = [7u64; base::WORDS];
     base::make(&mut rules, &mut cells, &mut words);
-    base::write_over(&mut rules, &mut cells, &mut words, numbers);
-    io::write_all(1, name);
+    if !base::write_over(&mut rules, &mut cells, &mut words, line, start) {
+        return false;
+    }
     try_formed(&rules, &cells, &words);
-    try_new(rules, cells, words);
-    try_add(rules, cells, words);
-    try_delete(rules, cells, words);
-    try_collect(rules, cells, words);
-    try_restart(rules, cells, words);
+    try_call(b'N', rules, cells, words);
+    try_call(b'A', rules, cells, words);
+    try_call(b'D', rules, cells, words);
+    try_call(b'G', rules, cells, words);
+    try_call(b'R', rules, cells, words);
     try_parse(rules, cells, words, &[1]);
     try_parse(rules, cells, words, &[1, 1]);
     io::write_all(1, b"\n");
+    true
 }
 
 fn try_formed(rules: &[u8], cells: &[u8], words: &[u64]) {
@@ -29,59 +34,32 @@ fn try_formed(rules: &[u8], cells: &[u8], words: &[u64]) {
     io::write_all(1, b"0");
 }
 
-fn try_new(rules: [u8; base::RULES], cells: [u8; base::CELLS], words: [u64; base::WORDS]) {
+fn try_call(
+    letter: u8,
+    rules: [u8; base::RULES],
+    cells: [u8; base::CELLS],
+    words: [u64; base::WORDS],
+) {
     let mut r = rules;
     let mut c = cells;
     let mut w = words;
-    let answer = generator::new(&mut r, &mut c, &mut w, 2, 3);
-    print_call(b" N", answer.number());
-    print_left(&rules, &cells, &words, &r, &c, &w);
-}
-
-// 64 -> 2: a START rule, so that set 0's kernel changes.
-fn try_add(rules: [u8; base::RULES], cells: [u8; base::CELLS], words: [u64; base::WORDS]) {
-    let mut r = rules;
-    let mut c = cells;
-    let mut w = words;
-    let changed = generator::add(&mut r, &mut c, &mut w, 64, &[2]);
-    let answer = changed.answer;
-    print_call(b" A", answer.number());
-    print_number(changed.rule);
+    print_letter(letter);
+    call(letter, &mut r, &mut c, &mut w);
     if print_left(&rules, &cells, &words, &r, &c, &w) {
         print_next(&mut r, &mut c, &mut w);
     }
 }
 
-// 65 -> 1.
-fn try_delete(rules: [u8; base::RULES], cells: [u8; base::CELLS], words: [u64; base::WORDS]) {
-    let mut r = rules;
-    let mut c = cells;
-    let mut w = words;
-    let changed = generator::delete(&mut r, &mut c, &mut w, 65, &[1]);
-    let answer = changed.answer;
-    print_call(b" D", answer.number());
-    print_number(changed.rule);
-    if print_left(&rules, &cells, &words, &r, &c, &w) {
-        print_next(&mut r, &mut c, &mut w);
+// Does the call of a letter and prints its answers. What is added is 64 -> 2, a START rule, so that set 0's kernel changes; what is
+// deleted is 65 -> 1.
+fn call(letter: u8, rules: &mut [u8], cells: &mut [u8], words: &mut [u64]) {
+    match letter {
+        b'N' => print_answer(generator::new(rules, cells, words, 2, 3)),
+        b'A' => print_change(generator::add(rules, cells, words, 64, &[2])),
+        b'D' => print_change(generator::delete(rules, cells, words, 65, &[1])),
+        b'G' => print_answer(generator::collect(rules, cells, words)),
+        _ => print_answer(generator::restart(rules, cells, words)),
     }
-}
-
-fn try_collect(rules: [u8; base::RULES], cells: [u8; base::CELLS], words: [u64; base::WORDS]) {
-    let mut r = rules;
-    let mut c = cells;
-    let mut w = words;
-    let answer = generator::collect(&mut r, &mut c, &mut w);
-    print_call(b" G", answer.number());
-    print_left(&rules, &cells, &words, &r, &c, &w);
-}
-
-fn try_restart(rules: [u8; base::RULES], cells: [u8; base::CELLS], words: [u64; base::WORDS]) {
-    let mut r = rules;
-    let mut c = cells;
-    let mut w = words;
-    let answer = generator::restart(&mut r, &mut c, &mut w);
-    print_call(b" R", answer.number());
-    print_left(&rules, &cells, &words, &r, &c, &w);
 }
 
 // Over a link buffer that is not zero.
@@ -97,16 +75,25 @@ fn try_parse(
     let mut links = [7u16; base::LINKS];
     let verdict = recogniser::parse(&mut r, &mut c, &mut w, &mut links, base::POOL, line);
     let answer = verdict.answer;
-    print_call(b" P", answer.number());
+    print_letter(b'P');
+    print_answer(answer);
     print_number(verdict.links);
     print_links(&links, answer.number());
     print_left(&rules, &cells, &words, &r, &c, &w);
 }
 
-// ` G 0`
-fn print_call(name: &[u8], answer: u8) {
-    io::write_all(1, name);
-    print_number(answer as usize);
+fn print_letter(letter: u8) {
+    io::write_all(1, &[b' ', letter]);
+}
+
+fn print_answer(answer: Answer) {
+    print_number(answer.number() as usize);
+}
+
+fn print_change(changed: Changed) {
+    let answer = changed.answer;
+    print_answer(answer);
+    print_number(changed.rule);
 }
 
 fn print_number(n: usize) {
@@ -134,8 +121,7 @@ fn print_left(rules: &[u8], cells: &[u8], words: &[u64], r: &[u8], c: &[u8], w: 
 
 // What Collect answers to a table that a call left out of form.
 fn print_next(rules: &mut [u8], cells: &mut [u8], words: &mut [u64]) {
-    let answer = generator::collect(rules, cells, words);
-    print_number(answer.number() as usize);
+    print_answer(generator::collect(rules, cells, words));
 }
 
 // A refused parse leaves the link buffer as it was, any other leaves the pool's part zero; beyond it nothing is touched.
