@@ -1,17 +1,8 @@
-// The table that the cases start from: seven sets and five places for rules, and numbers beyond the pools that are not zero.
+// The table that the cases start from, with numbers beyond the pools that are not zero; and the numbers written over it.
+use super::calls;
+use super::calls::Lent;
 use script::Cursor;
 use script::Number;
-
-// What the pools need, and a few numbers more.
-pub const RULES: usize = 2 + 10 * 5 + 3;
-
-pub const CELLS: usize = 128 * 7 + 5;
-
-pub const WORDS: usize = 18 * 7 + 2;
-
-pub const LINKS: usize = 6 * (POOL + 1) + 4;
-
-pub const POOL: usize = 8;
 
 // Makes the table by calls. Rules 0: 64 -> 65, 1: 65 -> 1, 2: 65 -> 2 withdrawn, 3: 64 -> 3; 4 is free. Sets:
 //
@@ -21,74 +12,75 @@ pub const POOL: usize = 8;
 //   3  kernel 3.1      unexpanded
 //   4  kernel 0.1      expanded, accepts
 //
-// and 5 and 6 are free.
-pub fn make(rules: &mut [u8], cells: &mut [u8], words: &mut [u64]) {
-    generator::new(rules, cells, words, 7, 5);
-    add_rules(rules, cells, words);
-    read_lines(rules, cells, words);
+// and 5 and 6 are free. The line 2 expands the set that stays over once its rule is withdrawn.
+pub fn make() -> Lent {
+    let sevens = Lent {
+        rules: [7; calls::RULES],
+        cells: [7; calls::CELLS],
+        words: [7; calls::WORDS],
+        answer: 0,
+        number: 0,
+    };
+    let new = sevens.new(7, 5);
+    let ruled = new.add(64, 65).add(65, 1).add(65, 2).add(64, 3);
+    ruled.parse(&[2]).delete(65, 2).parse(&[1])
 }
 
-fn add_rules(rules: &mut [u8], cells: &mut [u8], words: &mut [u64]) {
-    add(rules, cells, words, 64, 65);
-    add(rules, cells, words, 65, 1);
-    add(rules, cells, words, 65, 2);
-    add(rules, cells, words, 64, 3);
+// A table with numbers written over, and whether they could be read.
+pub struct Written {
+    pub table: Lent,
+    pub is_read: bool,
 }
 
-// The line 2 expands the set that stays over once its rule is withdrawn.
-fn read_lines(rules: &mut [u8], cells: &mut [u8], words: &mut [u64]) {
-    read(rules, cells, words, 2);
-    generator::delete(rules, cells, words, 65, &[2]);
-    read(rules, cells, words, 1);
-}
-
-fn add(rules: &mut [u8], cells: &mut [u8], words: &mut [u64], left: u8, right: u8) {
-    generator::add(rules, cells, words, left, &[right]);
-}
-
-fn read(rules: &mut [u8], cells: &mut [u8], words: &mut [u64], token: u8) {
-    let mut links = [0u16; LINKS];
-    recogniser::parse(rules, cells, words, &mut links, POOL, &[token]);
-}
-
-// Writes the numbers over that stand in the line from `start` on: slice, place and number of each, three after three. Says
-// whether nothing else stands there.
-pub fn write_over(
-    rules: &mut [u8],
-    cells: &mut [u8],
-    words: &mut [u64],
-    line: &[u8],
-    start: Cursor,
-) -> bool {
+// Writes the numbers over that stand in the line from `start` on, and nothing else: slice, place and number of each, three after
+// three.
+pub fn write_over(made: Lent, line: &[u8], start: Cursor) -> Written {
+    let mut table = made;
     let mut c = start;
     while c.at < line.len() {
         let Number::Is(slice, second) = c.number(line) else {
-            return false;
+            return Written {
+                table,
+                is_read: false,
+            };
         };
         let Number::Is(place, third) = second.number(line) else {
-            return false;
+            return Written {
+                table,
+                is_read: false,
+            };
         };
         let Number::Is(number, after) = third.number(line) else {
-            return false;
+            return Written {
+                table,
+                is_read: false,
+            };
         };
-        write(rules, cells, words, slice, place, number);
+        let written = write(table, slice, place, number);
+        table = written;
         c = after;
     }
-    true
+    Written {
+        table,
+        is_read: true,
+    }
 }
 
-fn write(
-    rules: &mut [u8],
-    cells: &mut [u8],
-    words: &mut [u64],
-    slice: usize,
-    place: usize,
-    number: usize,
-) {
+fn write(table: Lent, slice: usize, place: usize, number: usize) -> Lent {
+    let mut rules = table.rules;
+    let mut cells = table.cells;
+    let mut words = table.words;
     match slice {
-        0 => write_byte(rules, place, number),
-        1 => write_byte(cells, place, number),
-        _ => write_bit(words, place, number),
+        0 => write_byte(&mut rules, place, number),
+        1 => write_byte(&mut cells, place, number),
+        _ => write_bit(&mut words, place, number),
+    }
+    Lent {
+        rules,
+        cells,
+        words,
+        answer: 0,
+        number: 0,
     }
 }
 

@@ -14,6 +14,7 @@
 // numbers.
 mod base; // base.rt: the table that the cases start from, and the numbers written over it
 mod cases; // cases.rt: the cases, from the file stdin
+mod calls; // calls.rt: the calls on a copy of a table
 mod tried; // tried.rt: every call on a table
 
 fn main() {

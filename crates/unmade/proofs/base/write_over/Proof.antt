@@ -1,5 +1,4 @@
--- `write_over` is safe and ends: each turn leaves less of the line to read, and the slices keep their lengths. Assumes nothing.
-use mathlib.Core.Path.{_≡_}
+-- `write_over` is safe and ends: each turn leaves less of the line to read. Assumes nothing.
 use Prim.Native.Nat.{_-_}
 use native.Mathlib.Omega.{arith}
 use lib.ListN.{length}
@@ -9,10 +8,10 @@ use Rattle.unmade.proofs.base.write_over.Statement.{statement}
 use Rattle.unmade.proofs.base.write_over.Tie as tie
 
 abbrev Inv-loop : tie.InvT-loop
-Inv-loop rules₀ cells₀ words₀ line c₀ rules cells words c = (length rules ≡ length rules₀) × (length cells ≡ length cells₀) × (length words ≡ length words₀)
+Inv-loop line table₀ c₀ table c = Unit {0}
 
 abbrev μ-loop : tie.MeasureT-loop
-μ-loop rules₀ cells₀ words₀ line c₀ rules cells words c = length line - c .at
+μ-loop line table₀ c₀ table c = length line - c .at
 
 loop-holds : tie.Need-loop-holds Inv-loop μ-loop
 loop-holds c = search needs
@@ -26,15 +25,6 @@ enum-known-slice c = search needs
 enum-told : tie.Need-enum-told Inv-loop μ-loop
 enum-told c = search needs
 
-same-length : tie.Need-same-length Inv-loop μ-loop
-same-length c = search needs
-
-same-length-2 : tie.Need-same-length-2 Inv-loop μ-loop
-same-length-2 c = search needs
-
-same-length-3 : tie.Need-same-length-3 Inv-loop μ-loop
-same-length-3 c = search needs
-
 returns : tie.Need-returns Inv-loop μ-loop
 returns c = search needs
 
@@ -46,15 +36,6 @@ enum-known-place c = search needs
 
 enum-told-2 : tie.Need-enum-told-2 Inv-loop μ-loop
 enum-told-2 c = search needs
-
-same-length-4 : tie.Need-same-length-4 Inv-loop μ-loop
-same-length-4 c = search needs
-
-same-length-5 : tie.Need-same-length-5 Inv-loop μ-loop
-same-length-5 c = search needs
-
-same-length-6 : tie.Need-same-length-6 Inv-loop μ-loop
-same-length-6 c = search needs
 
 returns-2 : tie.Need-returns-2 Inv-loop μ-loop
 returns-2 c = search needs
@@ -68,15 +49,6 @@ enum-known-number c = search needs
 enum-told-3 : tie.Need-enum-told-3 Inv-loop μ-loop
 enum-told-3 c = search needs
 
-same-length-7 : tie.Need-same-length-7 Inv-loop μ-loop
-same-length-7 c = search needs
-
-same-length-8 : tie.Need-same-length-8 Inv-loop μ-loop
-same-length-8 c = search needs
-
-same-length-9 : tie.Need-same-length-9 Inv-loop μ-loop
-same-length-9 c = search needs
-
 returns-3 : tie.Need-returns-3 Inv-loop μ-loop
 returns-3 c = search needs
 
@@ -85,22 +57,13 @@ write-requires c κs = search needs
 
 loop-less : tie.Need-loop-less Inv-loop μ-loop
 loop-less c =
-    let a = number-of (c .before .before .before .before .before .before .before .before .before .before .before .before .before .before .before .before .before .before .before .slice .given .1) (c .before .before .before .before .before .before .before .before .before .before .before .before .before .before .before .before .before .before .before .before .before .number .ensures) .past in
-    let b = number-of (c .before .before .before .before .before .before .before .before .before .before .before .before .before .before .before .place .given .1) (c .before .before .before .before .before .before .before .before .before .before .before .before .before .before .before .before .before .number2 .ensures) .past in
-    let d = number-of (c .before .before .before .before .before .before .before .before .before .before .before .number4 .given .1) (c .before .before .before .before .before .before .before .before .before .before .before .before .before .number3 .ensures) .past in
-    omega (arith, a, b, d, c .before .before .before .before .before .before .before .before .before .before .before .before .before .before .before .before .before .before .before .before .before .before .if1 .taken)
+    let a = number-of (c .before .before .before .before .before .before .before .before .before .before .slice .given .1) (c .before .before .before .before .before .before .before .before .before .before .before .before .number .ensures) .past in
+    let b = number-of (c .before .before .before .before .before .before .place .given .1) (c .before .before .before .before .before .before .before .before .number2 .ensures) .past in
+    let d = number-of (c .before .before .number4 .given .1) (c .before .before .before .before .number3 .ensures) .past in
+    omega (arith, a, b, d, c .before .before .before .before .before .before .before .before .before .before .before .before .before .if1 .taken)
 
 loop-again : tie.Need-loop-again Inv-loop μ-loop
 loop-again c = search needs
-
-same-length-10 : tie.Need-same-length-10 Inv-loop μ-loop
-same-length-10 c = search needs
-
-same-length-11 : tie.Need-same-length-11 Inv-loop μ-loop
-same-length-11 c = search needs
-
-same-length-12 : tie.Need-same-length-12 Inv-loop μ-loop
-same-length-12 c = search needs
 
 returns-4 : tie.Need-returns-4 Inv-loop μ-loop
 returns-4 c = search needs
@@ -115,28 +78,16 @@ write-over-spec =
     number-requires
     enum-known-slice
     enum-told
-    same-length
-    same-length-2
-    same-length-3
     returns
     number-requires-2
     enum-known-place
     enum-told-2
-    same-length-4
-    same-length-5
-    same-length-6
     returns-2
     number-requires-3
     enum-known-number
     enum-told-3
-    same-length-7
-    same-length-8
-    same-length-9
     returns-3
     write-requires
     loop-less
     loop-again
-    same-length-10
-    same-length-11
-    same-length-12
     returns-4)

@@ -1,0 +1,154 @@
+// A table by value, and the calls on it. A call takes a copy, and hands back what it left of the numbers and what it answered.
+
+// What the pools of seven sets and five places for rules need, and a few numbers more.
+pub const RULES: usize = 2 + 10 * 5 + 3;
+
+pub const CELLS: usize = 128 * 7 + 5;
+
+pub const WORDS: usize = 18 * 7 + 2;
+
+const POOL: usize = 8;
+
+const LINKS: usize = 6 * (POOL + 1) + 4;
+
+// The numbers, and the answers of the last call: its answer, and after Add and Delete the rule number, after Parse the number of
+// links.
+pub struct Lent {
+    pub rules: [u8; RULES],
+    pub cells: [u8; CELLS],
+    pub words: [u64; WORDS],
+    pub answer: u8,
+    pub number: usize,
+}
+
+impl Lent {
+    pub fn is_formed(self) -> bool {
+        let rules = self.rules;
+        let cells = self.cells;
+        let words = self.words;
+        form::is_formed(&rules, &cells, &words)
+    }
+
+    pub fn new(self, sets: usize, places: usize) -> Lent {
+        let mut rules = self.rules;
+        let mut cells = self.cells;
+        let mut words = self.words;
+        let answer = generator::new(&mut rules, &mut cells, &mut words, sets, places);
+        Lent {
+            rules,
+            cells,
+            words,
+            answer: answer.number(),
+            number: 0,
+        }
+    }
+
+    pub fn add(self, left: u8, right: u8) -> Lent {
+        let mut rules = self.rules;
+        let mut cells = self.cells;
+        let mut words = self.words;
+        let changed = generator::add(&mut rules, &mut cells, &mut words, left, &[right]);
+        let answer = changed.answer;
+        Lent {
+            rules,
+            cells,
+            words,
+            answer: answer.number(),
+            number: changed.rule,
+        }
+    }
+
+    pub fn delete(self, left: u8, right: u8) -> Lent {
+        let mut rules = self.rules;
+        let mut cells = self.cells;
+        let mut words = self.words;
+        let changed = generator::delete(&mut rules, &mut cells, &mut words, left, &[right]);
+        let answer = changed.answer;
+        Lent {
+            rules,
+            cells,
+            words,
+            answer: answer.number(),
+            number: changed.rule,
+        }
+    }
+
+    pub fn collect(self) -> Lent {
+        let mut rules = self.rules;
+        let mut cells = self.cells;
+        let mut words = self.words;
+        let answer = generator::collect(&mut rules, &mut cells, &mut words);
+        Lent {
+            rules,
+            cells,
+            words,
+            answer: answer.number(),
+            number: 0,
+        }
+    }
+
+    pub fn restart(self) -> Lent {
+        let mut rules = self.rules;
+        let mut cells = self.cells;
+        let mut words = self.words;
+        let answer = generator::restart(&mut rules, &mut cells, &mut words);
+        Lent {
+            rules,
+            cells,
+            words,
+            answer: answer.number(),
+            number: 0,
+        }
+    }
+
+    // Over a link buffer that is not zero.
+    pub fn parse(self, line: &[u8]) -> Lent {
+        let mut rules = self.rules;
+        let mut cells = self.cells;
+        let mut words = self.words;
+        let mut links = [7u16; LINKS];
+        let verdict = recogniser::parse(&mut rules, &mut cells, &mut words, &mut links, POOL, line);
+        let answer = verdict.answer;
+        print_links(&links, answer.number());
+        Lent {
+            rules,
+            cells,
+            words,
+            answer: answer.number(),
+            number: verdict.links,
+        }
+    }
+}
+
+// Prints `!` where Parse left the link buffer wrong. A refused parse leaves it as it was, any other leaves the pool's part zero;
+// beyond it nothing is touched.
+fn print_links(links: &[u16], answer: u8) {
+    let end = 6 * (POOL + 1);
+    if !all_are(links, end, LINKS, 7) {
+        io::write_all(1, b"!");
+        return;
+    }
+    if 10 <= answer && answer < 20 {
+        print_wrong(all_are(links, 0, end, 7));
+        return;
+    }
+    print_wrong(all_are(links, 0, end, 0));
+}
+
+fn print_wrong(right: bool) {
+    if !right {
+        io::write_all(1, b"!");
+    }
+}
+
+// Whether the numbers from `from` to `to` are all x.
+fn all_are(numbers: &[u16], from: usize, to: usize, x: u16) -> bool {
+    let mut i = from;
+    while i < to && i < numbers.len() {
+        if numbers[i] != x {
+            return false;
+        }
+        i += 1;
+    }
+    true
+}
