@@ -1,5 +1,13 @@
 // A table by value, and the calls on it. A call takes a copy, and hands back what it left of the numbers and what it answered.
 
+ghost use mathlib.Core.List.{[], _∷_};
+ghost use Rattle.laws.specs.Choice.{Tells};
+ghost use Rattle.theory.specs.Calls.{add, delete, collect, restart, parse};
+ghost use Rattle.table.specs.Layout.{mem};
+ghost use Rattle.table.specs.Becomes.{Promised};
+ghost use Rattle.table.specs.Laid.{Formed};
+ghost use Rattle.generator.specs.Calls.{NewPromised};
+
 // What the pools of seven sets and five places for rules need, and a few numbers more.
 pub const RULES: usize = 2 + 10 * 5 + 3;
 
@@ -22,14 +30,18 @@ pub struct Lent {
 }
 
 impl Lent {
-    pub fn is_formed(self) -> bool {
+    pub fn is_formed(self) -> bool
+        ensures { λ r. ⌜ Tells r (Formed (mem (self .rules) (self .cells) (self .words))) ⌝ }
+    {
         let rules = self.rules;
         let cells = self.cells;
         let words = self.words;
         form::is_formed(&rules, &cells, &words)
     }
 
-    pub fn new(self, sets: usize, places: usize) -> Lent {
+    pub fn new(self, sets: usize, places: usize) -> Lent
+        ensures { λ r. ⌜ NewPromised (mem (self .rules) (self .cells) (self .words)) (mem (r .rules) (r .cells) (r .words)) sets places (r .answer) ⌝ }
+    {
         let mut rules = self.rules;
         let mut cells = self.cells;
         let mut words = self.words;
@@ -43,7 +55,9 @@ impl Lent {
         }
     }
 
-    pub fn add(self, left: u8, right: u8) -> Lent {
+    pub fn add(self, left: u8, right: u8) -> Lent
+        ensures { λ r. ⌜ Promised (λ t. add t left (right ∷ [])) (mem (self .rules) (self .cells) (self .words)) (mem (r .rules) (r .cells) (r .words)) (r .answer) (r .number) ⌝ }
+    {
         let mut rules = self.rules;
         let mut cells = self.cells;
         let mut words = self.words;
@@ -58,7 +72,9 @@ impl Lent {
         }
     }
 
-    pub fn delete(self, left: u8, right: u8) -> Lent {
+    pub fn delete(self, left: u8, right: u8) -> Lent
+        ensures { λ r. ⌜ Promised (λ t. delete t left (right ∷ [])) (mem (self .rules) (self .cells) (self .words)) (mem (r .rules) (r .cells) (r .words)) (r .answer) (r .number) ⌝ }
+    {
         let mut rules = self.rules;
         let mut cells = self.cells;
         let mut words = self.words;
@@ -73,7 +89,9 @@ impl Lent {
         }
     }
 
-    pub fn collect(self) -> Lent {
+    pub fn collect(self) -> Lent
+        ensures { λ r. ⌜ Promised collect (mem (self .rules) (self .cells) (self .words)) (mem (r .rules) (r .cells) (r .words)) (r .answer) (r .number) ⌝ }
+    {
         let mut rules = self.rules;
         let mut cells = self.cells;
         let mut words = self.words;
@@ -87,7 +105,9 @@ impl Lent {
         }
     }
 
-    pub fn restart(self) -> Lent {
+    pub fn restart(self) -> Lent
+        ensures { λ r. ⌜ Promised restart (mem (self .rules) (self .cells) (self .words)) (mem (r .rules) (r .cells) (r .words)) (r .answer) (r .number) ⌝ }
+    {
         let mut rules = self.rules;
         let mut cells = self.cells;
         let mut words = self.words;
@@ -102,19 +122,22 @@ impl Lent {
     }
 
     // Over a link buffer that is not zero.
-    pub fn parse(self, line: &[u8]) -> Lent {
+    pub fn parse(self, line: &[u8]) -> Lent
+        ensures { λ r. ⌜ Promised (λ t. parse t 8 (now (line .entry))) (mem (self .rules) (self .cells) (self .words)) (mem (r .rules) (r .cells) (r .words)) (r .answer) (r .number) ⌝ }
+    {
         let mut rules = self.rules;
         let mut cells = self.cells;
         let mut words = self.words;
         let mut links = [7u16; LINKS];
         let verdict = recogniser::parse(&mut rules, &mut cells, &mut words, &mut links, POOL, line);
-        let answer = verdict.answer;
-        print_links(&links, answer.number());
+        let verdict_answer = verdict.answer;
+        let answer = verdict_answer.number();
+        print_links(&links, answer);
         Lent {
             rules,
             cells,
             words,
-            answer: answer.number(),
+            answer,
             number: verdict.links,
         }
     }
