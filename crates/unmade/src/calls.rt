@@ -1,5 +1,5 @@
-// A table by value, and the calls on it. A call takes a copy, and hands back what it left of the numbers and what it answered.
-
+// A table by value, and the calls on it. A call takes a copy, and hands back what it left of the numbers and what it answered. Each
+// promises what the call itself does.
 ghost use mathlib.Core.List.{[], _∷_};
 ghost use Rattle.laws.specs.Choice.{Tells};
 ghost use Rattle.theory.specs.Calls.{add, delete, collect, restart, parse};
@@ -15,12 +15,12 @@ pub const CELLS: usize = 128 * 7 + 5;
 
 pub const WORDS: usize = 18 * 7 + 2;
 
+// The link pool, and what it needs with a few numbers more.
 const POOL: usize = 8;
 
 const LINKS: usize = 6 * (POOL + 1) + 4;
 
-// The numbers, and the answers of the last call: its answer, and after Add and Delete the rule number, after Parse the number of
-// links.
+// The lent numbers, and what the last call answered: `number` is the rule's for Add and Delete, that of links for Parse, and 0 else.
 pub struct Lent {
     pub rules: [u8; RULES],
     pub cells: [u8; CELLS],
@@ -40,7 +40,8 @@ impl Lent {
     }
 
     pub fn new(self, sets: usize, places: usize) -> Lent
-        ensures { λ r. ⌜ NewPromised (mem (self .rules) (self .cells) (self .words)) (mem (r .rules) (r .cells) (r .words)) sets places (r .answer) ⌝ }
+        ensures { λ r. ⌜ NewPromised
+            (mem (self .rules) (self .cells) (self .words)) (mem (r .rules) (r .cells) (r .words)) sets places (r .answer) ⌝ }
     {
         let mut rules = self.rules;
         let mut cells = self.cells;
@@ -56,7 +57,8 @@ impl Lent {
     }
 
     pub fn add(self, left: u8, right: u8) -> Lent
-        ensures { λ r. ⌜ Promised (λ t. add t left (right ∷ [])) (mem (self .rules) (self .cells) (self .words)) (mem (r .rules) (r .cells) (r .words)) (r .answer) (r .number) ⌝ }
+        ensures { λ r. ⌜ Promised (λ t. add t left (right ∷ []))
+            (mem (self .rules) (self .cells) (self .words)) (mem (r .rules) (r .cells) (r .words)) (r .answer) (r .number) ⌝ }
     {
         let mut rules = self.rules;
         let mut cells = self.cells;
@@ -73,7 +75,8 @@ impl Lent {
     }
 
     pub fn delete(self, left: u8, right: u8) -> Lent
-        ensures { λ r. ⌜ Promised (λ t. delete t left (right ∷ [])) (mem (self .rules) (self .cells) (self .words)) (mem (r .rules) (r .cells) (r .words)) (r .answer) (r .number) ⌝ }
+        ensures { λ r. ⌜ Promised (λ t. delete t left (right ∷ []))
+            (mem (self .rules) (self .cells) (self .words)) (mem (r .rules) (r .cells) (r .words)) (r .answer) (r .number) ⌝ }
     {
         let mut rules = self.rules;
         let mut cells = self.cells;
@@ -90,7 +93,8 @@ impl Lent {
     }
 
     pub fn collect(self) -> Lent
-        ensures { λ r. ⌜ Promised collect (mem (self .rules) (self .cells) (self .words)) (mem (r .rules) (r .cells) (r .words)) (r .answer) (r .number) ⌝ }
+        ensures { λ r. ⌜ Promised collect
+            (mem (self .rules) (self .cells) (self .words)) (mem (r .rules) (r .cells) (r .words)) (r .answer) (r .number) ⌝ }
     {
         let mut rules = self.rules;
         let mut cells = self.cells;
@@ -106,7 +110,8 @@ impl Lent {
     }
 
     pub fn restart(self) -> Lent
-        ensures { λ r. ⌜ Promised restart (mem (self .rules) (self .cells) (self .words)) (mem (r .rules) (r .cells) (r .words)) (r .answer) (r .number) ⌝ }
+        ensures { λ r. ⌜ Promised restart
+            (mem (self .rules) (self .cells) (self .words)) (mem (r .rules) (r .cells) (r .words)) (r .answer) (r .number) ⌝ }
     {
         let mut rules = self.rules;
         let mut cells = self.cells;
@@ -123,15 +128,16 @@ impl Lent {
 
     // Over a link buffer that is not zero.
     pub fn parse(self, line: &[u8]) -> Lent
-        ensures { λ r. ⌜ Promised (λ t. parse t 8 (now (line .entry))) (mem (self .rules) (self .cells) (self .words)) (mem (r .rules) (r .cells) (r .words)) (r .answer) (r .number) ⌝ }
+        ensures { λ r. ⌜ Promised (λ t. parse t 8 (now (line .entry)))
+            (mem (self .rules) (self .cells) (self .words)) (mem (r .rules) (r .cells) (r .words)) (r .answer) (r .number) ⌝ }
     {
         let mut rules = self.rules;
         let mut cells = self.cells;
         let mut words = self.words;
         let mut links = [7u16; LINKS];
         let verdict = recogniser::parse(&mut rules, &mut cells, &mut words, &mut links, POOL, line);
-        let verdict_answer = verdict.answer;
-        let answer = verdict_answer.number();
+        let told = verdict.answer;
+        let answer = told.number();
         print_links(&links, answer);
         Lent {
             rules,

@@ -1,9 +1,12 @@
 // The cases, from standard input. The file stdin says how they are written.
+use super::base;
 use super::tried;
 use script::Cursor;
 use script::Letter;
+ghost use Prim.Native.Nat.{_≤_};
+ghost use lib.ListN.{length};
 
-// Does what each line of standard input says, of its first 65,536 bytes.
+// Does what each line of standard input says. (Of its first 65,536 bytes: the file has a tenth of that.)
 pub fn all() {
     let mut text = io::large_buffer();
     let n = io::read_full(libc::STDIN_FILENO, &mut text);
@@ -19,8 +22,8 @@ fn each_line(text: &[u8]) {
     }
 }
 
-// `# NAME` is the beginning of what the next case prints, other lines with `#` are for the reader, and any other is a case. One that
-// is none is printed, so that the output is not what it is held to.
+// `# NAME` is what the next case's line starts with, other lines with # are for the reader, and any else is a case. One that is none
+// is printed, so that the output is not what it is held to.
 fn obey(line: &[u8]) {
     if 2 <= line.len() && line[0] == b'#' {
         print_name(line);
@@ -33,13 +36,15 @@ fn obey(line: &[u8]) {
     }
 }
 
-fn print_name(line: &[u8]) {
-    if 2 <= line.len() && line[1] == b' ' {
+fn print_name(line: &[u8])
+    requires { ⌜ 2 ≤ length (now line) ⌝ }
+{
+    if line[1] == b' ' {
         io::write_all(1, &line[2..]);
     }
 }
 
-// Tries the case of a line `T` with its numbers; says whether the line is that.
+// Tries every call on the table that a line `T` with its numbers gives; says whether the line is that.
 fn try_case(line: &[u8]) -> bool {
     let Letter::Is(letter, start) = Cursor::START.letter(line) else {
         return false;
@@ -47,5 +52,11 @@ fn try_case(line: &[u8]) -> bool {
     if letter != b'T' {
         return false;
     }
-    tried::case(line, start)
+    let written = base::write_over(base::make(), line, start);
+    if !written.is_read {
+        return false;
+    }
+    let table = written.table;
+    tried::every_call(table);
+    true
 }
