@@ -26,14 +26,14 @@ pub fn make() -> Lent {
     ruled.parse(&[2]).delete(65, 2).parse(&[1])
 }
 
-// A table with numbers written over, and whether they could be read.
+// A table with numbers written over, and whether all of them could be read and have a place.
 pub struct Written {
     pub table: Lent,
-    pub is_read: bool,
+    pub is_good: bool,
 }
 
-// Writes the numbers over that stand in the line from `start` on, and nothing else: slice, place and number of each, three after
-// three.
+// Writes the numbers over that stand in the line from `start` on: slice, place and number of each, three after three, and nothing
+// else.
 pub fn write_over(made: Lent, line: &[u8], start: Cursor) -> Written {
     let mut table = made;
     let mut c = start;
@@ -41,61 +41,77 @@ pub fn write_over(made: Lent, line: &[u8], start: Cursor) -> Written {
         let Number::Is(slice, second) = c.number(line) else {
             return Written {
                 table,
-                is_read: false,
+                is_good: false,
             };
         };
         let Number::Is(place, third) = second.number(line) else {
             return Written {
                 table,
-                is_read: false,
+                is_good: false,
             };
         };
         let Number::Is(number, after) = third.number(line) else {
             return Written {
                 table,
-                is_read: false,
+                is_good: false,
             };
         };
         let written = write(table, slice, place, number);
-        table = written;
+        if !written.is_good {
+            return written;
+        }
+        let next = written.table;
+        table = next;
         c = after;
     }
     Written {
         table,
-        is_read: true,
+        is_good: true,
     }
 }
 
-fn write(table: Lent, slice: usize, place: usize, number: usize) -> Lent {
-    let mut rules = table.rules;
-    let mut cells = table.cells;
-    let mut words = table.words;
-    match slice {
+fn write(made: Lent, slice: usize, place: usize, number: usize) -> Written {
+    let mut rules = made.rules;
+    let mut cells = made.cells;
+    let mut words = made.words;
+    let is_good = match slice {
         0 => write_byte(&mut rules, place, number),
         1 => write_byte(&mut cells, place, number),
-        _ => write_bit(&mut words, place, number),
-    }
-    Lent {
+        2 => write_bit(&mut words, place, number),
+        _ => false,
+    };
+    let table = Lent {
         rules,
         cells,
         words,
         answer: 0,
         number: 0,
-    }
+    };
+    Written { table, is_good }
 }
 
-fn write_byte(bytes: &mut [u8], place: usize, number: usize) {
-    if place < bytes.len() && number < 256 {
-        bytes[place] = number as u8;
+fn write_byte(bytes: &mut [u8], place: usize, number: usize) -> bool {
+    if bytes.len() <= place {
+        return false;
     }
+    if 255 < number {
+        return false;
+    }
+    bytes[place] = number as u8;
+    true
 }
 
 // A bit is 1 or 0; sets have 1,152 each.
-fn write_bit(words: &mut [u64], place: usize, number: usize) {
+fn write_bit(words: &mut [u64], place: usize, number: usize) -> bool {
     let at = place / 64;
-    if at < words.len() {
-        words[at] = with_bit(words[at], place % 64, number);
+    if words.len() <= at {
+        return false;
     }
+    if 1 < number {
+        return false;
+    }
+    words[at] = with_bit(words[at], place % 64, number);
+    true
 }
 
 fn with_bit(word: u64, bit: usize, number: usize) -> u64 {

@@ -53,7 +53,7 @@ fn try_case(line: &[u8]) -> bool {
         return false;
     }
     let written = base::write_over(base::make(), line, start);
-    if !written.is_read {
+    if !written.is_good {
         return false;
     }
     let table = written.table;

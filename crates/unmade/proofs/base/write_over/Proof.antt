@@ -55,18 +55,21 @@ returns-3 c = search needs
 write-requires : tie.Need-write-requires Inv-loop μ-loop
 write-requires c κs = search needs
 
+returns-4 : tie.Need-returns-4 Inv-loop μ-loop
+returns-4 c = search needs
+
 loop-less : tie.Need-loop-less Inv-loop μ-loop
 loop-less c =
-    let a = number-of (c .before .before .before .before .before .before .before .before .before .before .slice .given .1) (c .before .before .before .before .before .before .before .before .before .before .before .before .number .ensures) .past in
-    let b = number-of (c .before .before .before .before .before .before .place .given .1) (c .before .before .before .before .before .before .before .before .number2 .ensures) .past in
-    let d = number-of (c .before .before .number4 .given .1) (c .before .before .before .before .number3 .ensures) .past in
-    omega (arith, a, b, d, c .before .before .before .before .before .before .before .before .before .before .before .before .before .if1 .taken)
+    let a = number-of (c .before .before .before .before .before .before .before .before .before .before .before .before .before .slice .given .1) (c .before .before .before .before .before .before .before .before .before .before .before .before .before .before .before .number .ensures) .past in
+    let b = number-of (c .before .before .before .before .before .before .before .before .before .place .given .1) (c .before .before .before .before .before .before .before .before .before .before .before .number2 .ensures) .past in
+    let d = number-of (c .before .before .before .before .before .number4 .given .1) (c .before .before .before .before .before .before .before .number3 .ensures) .past in
+    omega (arith, a, b, d, c .before .before .before .before .before .before .before .before .before .before .before .before .before .before .before .before .if1 .taken)
 
 loop-again : tie.Need-loop-again Inv-loop μ-loop
 loop-again c = search needs
 
-returns-4 : tie.Need-returns-4 Inv-loop μ-loop
-returns-4 c = search needs
+returns-5 : tie.Need-returns-5 Inv-loop μ-loop
+returns-5 c = search needs
 
 pub write-over-spec : {M : Type 1} → statement M
 write-over-spec =
@@ -88,6 +91,7 @@ write-over-spec =
     enum-told-3
     returns-3
     write-requires
+    returns-4
     loop-less
     loop-again
-    returns-4)
+    returns-5)
