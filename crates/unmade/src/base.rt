@@ -1,22 +1,8 @@
-// The table that the cases start from: seven sets and five places for rules, and numbers beyond the pools that are not zero.
-
-// What the pools need, and a few numbers more.
-pub const RULES: usize = 2 + 10 * 5 + 3;
-
-pub const CELLS: usize = 128 * 7 + 5;
-
-pub const WORDS: usize = 18 * 7 + 2;
-
-pub const LINKS: usize = 6 * (POOL + 1) + 4;
-
-pub const POOL: usize = 8;
-
-// Where a number is written: a number of the rules' slice, a cell, or a bit of the words.
-pub const RULE: usize = 0;
-
-pub const CELL: usize = 1;
-
-pub const BIT: usize = 2;
+// The table that the cases start from, with numbers beyond the pools that are not zero; and the numbers written over it.
+use super::calls;
+use super::calls::Lent;
+use script::Cursor;
+use script::Number;
 
 // Makes the table by calls. Rules 0: 64 -> 65, 1: 65 -> 1, 2: 65 -> 2 withdrawn, 3: 64 -> 3; 4 is free. Sets:
 //
@@ -26,79 +12,106 @@ pub const BIT: usize = 2;
 //   3  kernel 3.1      unexpanded
 //   4  kernel 0.1      expanded, accepts
 //
-// and 5 and 6 are free.
-pub fn make(rules: &mut [u8], cells: &mut [u8], words: &mut [u64]) {
-    generator::new(rules, cells, words, 7, 5);
-    add_rules(rules, cells, words);
-    read_lines(rules, cells, words);
+// and 5 and 6 are free. The line 2 expands the set that stays over once its rule is withdrawn.
+pub(crate) fn make() -> Lent {
+    let sevens = Lent {
+        rules: [7; calls::RULES],
+        cells: [7; calls::CELLS],
+        words: [7; calls::WORDS],
+        answer: 0,
+        number: 0,
+    };
+    let new = sevens.new(7, 5);
+    let ruled = new.add(64, 65).add(65, 1).add(65, 2).add(64, 3);
+    ruled.parse(&[2]).delete(65, 2).parse(&[1])
 }
 
-fn add_rules(rules: &mut [u8], cells: &mut [u8], words: &mut [u64]) {
-    add(rules, cells, words, 64, &[65]);
-    add(rules, cells, words, 65, &[1]);
-    add(rules, cells, words, 65, &[2]);
-    add(rules, cells, words, 64, &[3]);
+// A table with numbers written over, and whether all of them could be read and have a place.
+pub struct Written {
+    pub table: Lent,
+    pub is_good: bool,
 }
 
-// The line 2 expands the set that stays over once its rule is withdrawn.
-fn read_lines(rules: &mut [u8], cells: &mut [u8], words: &mut [u64]) {
-    read(rules, cells, words, &[2]);
-    generator::delete(rules, cells, words, 65, &[2]);
-    read(rules, cells, words, &[1]);
-}
-
-fn add(rules: &mut [u8], cells: &mut [u8], words: &mut [u64], left: u8, right: &[u8]) {
-    generator::add(rules, cells, words, left, right);
-}
-
-fn read(rules: &mut [u8], cells: &mut [u8], words: &mut [u64], line: &[u8]) {
-    let mut links = [0u16; LINKS];
-    recogniser::parse(rules, cells, words, &mut links, POOL, line);
-}
-
-// Writes the numbers over: slice, place and number of each, three after three.
-pub fn write_over(rules: &mut [u8], cells: &mut [u8], words: &mut [u64], numbers: &[usize]) {
-    let mut i: usize = 0;
-    while i + 3 <= numbers.len() {
-        write(
-            rules,
-            cells,
-            words,
-            numbers[i],
-            numbers[i + 1],
-            numbers[i + 2],
-        );
-        i += 3;
+// Writes the numbers over that stand in the line from `start` on: slice, place and number of each, three after three, and nothing
+// else.
+pub(crate) fn write_over(made: Lent, line: &[u8], start: Cursor) -> Written {
+    let mut table = made;
+    let mut c = start;
+    while c.at < line.len() {
+        let Number::Is(slice, second) = c.number(line) else {
+            return Written {
+                table,
+                is_good: false,
+            };
+        };
+        let Number::Is(place, third) = second.number(line) else {
+            return Written {
+                table,
+                is_good: false,
+            };
+        };
+        let Number::Is(number, after) = third.number(line) else {
+            return Written {
+                table,
+                is_good: false,
+            };
+        };
+        let written = write(table, slice, place, number);
+        if !written.is_good {
+            return written;
+        }
+        let next = written.table;
+        table = next;
+        c = after;
+    }
+    Written {
+        table,
+        is_good: true,
     }
 }
 
-fn write(
-    rules: &mut [u8],
-    cells: &mut [u8],
-    words: &mut [u64],
-    slice: usize,
-    place: usize,
-    number: usize,
-) {
-    match slice {
-        RULE => write_byte(rules, place, number),
-        CELL => write_byte(cells, place, number),
-        _ => write_bit(words, place, number),
-    }
+fn write(made: Lent, slice: usize, place: usize, number: usize) -> Written {
+    let mut rules = made.rules;
+    let mut cells = made.cells;
+    let mut words = made.words;
+    let is_good = match slice {
+        0 => write_byte(&mut rules, place, number),
+        1 => write_byte(&mut cells, place, number),
+        2 => write_bit(&mut words, place, number),
+        _ => false,
+    };
+    let table = Lent {
+        rules,
+        cells,
+        words,
+        answer: 0,
+        number: 0,
+    };
+    Written { table, is_good }
 }
 
-fn write_byte(bytes: &mut [u8], place: usize, number: usize) {
-    if place < bytes.len() && number < 256 {
-        bytes[place] = number as u8;
+fn write_byte(bytes: &mut [u8], place: usize, number: usize) -> bool {
+    if bytes.len() <= place {
+        return false;
     }
+    if 255 < number {
+        return false;
+    }
+    bytes[place] = number as u8;
+    true
 }
 
 // A bit is 1 or 0; sets have 1,152 each.
-fn write_bit(words: &mut [u64], place: usize, number: usize) {
+fn write_bit(words: &mut [u64], place: usize, number: usize) -> bool {
     let at = place / 64;
-    if at < words.len() {
-        words[at] = with_bit(words[at], place % 64, number);
+    if words.len() <= at {
+        return false;
     }
+    if 1 < number {
+        return false;
+    }
+    words[at] = with_bit(words[at], place % 64, number);
+    true
 }
 
 fn with_bit(word: u64, bit: usize, number: usize) -> u64 {

@@ -1,112 +1,35 @@
 // Every call on a table, each on a copy of its own; prints the line.
-use super::base;
+use super::calls::Lent;
 
-// Writes the numbers over the made table and tries every call on it.
-pub fn case(name: &[u8], numbers: &[usize]) {
-    let mut rules = [7u8; base::RULES];
-    let mut cells = [7u8; base::CELLS];
-    let mut words = [7u64; base::WORDS];
-    base::make(&mut rules, &mut cells, &mut words);
-    base::write_over(&mut rules, &mut cells, &mut words, numbers);
-    io::write_all(1, name);
-    try_formed(&rules, &cells, &words);
-    try_new(rules, cells, words);
-    try_add(rules, cells, words);
-    try_delete(rules, cells, words);
-    try_collect(rules, cells, words);
-    try_restart(rules, cells, words);
-    try_parse(rules, cells, words, &[1]);
-    try_parse(rules, cells, words, &[1, 1]);
+pub(crate) fn every_call(t: Lent) {
+    print_formed(t);
+    print_call(b'N', t, t.new(2, 3));
+    print_call(b'A', t, t.add(64, 2)); // a START rule, so that set 0's kernel changes
+    print_call(b'D', t, t.delete(65, 1));
+    print_call(b'G', t, t.collect());
+    print_call(b'R', t, t.restart());
+    print_call(b'P', t, t.parse(&[1]));
+    print_call(b'P', t, t.parse(&[1, 1]));
     io::write_all(1, b"\n");
 }
 
-fn try_formed(rules: &[u8], cells: &[u8], words: &[u64]) {
+fn print_formed(t: Lent) {
     io::write_all(1, b": F ");
-    if form::is_formed(rules, cells, words) {
+    if t.is_formed() {
         io::write_all(1, b"1");
         return;
     }
     io::write_all(1, b"0");
 }
 
-fn try_new(rules: [u8; base::RULES], cells: [u8; base::CELLS], words: [u64; base::WORDS]) {
-    let mut r = rules;
-    let mut c = cells;
-    let mut w = words;
-    let answer = generator::new(&mut r, &mut c, &mut w, 2, 3);
-    print_call(b" N", answer.number());
-    print_left(&rules, &cells, &words, &r, &c, &w);
-}
-
-// 64 -> 2: a START rule, so that set 0's kernel changes.
-fn try_add(rules: [u8; base::RULES], cells: [u8; base::CELLS], words: [u64; base::WORDS]) {
-    let mut r = rules;
-    let mut c = cells;
-    let mut w = words;
-    let changed = generator::add(&mut r, &mut c, &mut w, 64, &[2]);
-    let answer = changed.answer;
-    print_call(b" A", answer.number());
-    print_number(changed.rule);
-    if print_left(&rules, &cells, &words, &r, &c, &w) {
-        print_next(&mut r, &mut c, &mut w);
+// Prints a call's letter and its answers, and what it left of the table t.
+fn print_call(letter: u8, t: Lent, left: Lent) {
+    io::write_all(1, &[b' ', letter]);
+    print_number(left.answer as usize);
+    if letter == b'A' || letter == b'D' || letter == b'P' {
+        print_number(left.number);
     }
-}
-
-// 65 -> 1.
-fn try_delete(rules: [u8; base::RULES], cells: [u8; base::CELLS], words: [u64; base::WORDS]) {
-    let mut r = rules;
-    let mut c = cells;
-    let mut w = words;
-    let changed = generator::delete(&mut r, &mut c, &mut w, 65, &[1]);
-    let answer = changed.answer;
-    print_call(b" D", answer.number());
-    print_number(changed.rule);
-    if print_left(&rules, &cells, &words, &r, &c, &w) {
-        print_next(&mut r, &mut c, &mut w);
-    }
-}
-
-fn try_collect(rules: [u8; base::RULES], cells: [u8; base::CELLS], words: [u64; base::WORDS]) {
-    let mut r = rules;
-    let mut c = cells;
-    let mut w = words;
-    let answer = generator::collect(&mut r, &mut c, &mut w);
-    print_call(b" G", answer.number());
-    print_left(&rules, &cells, &words, &r, &c, &w);
-}
-
-fn try_restart(rules: [u8; base::RULES], cells: [u8; base::CELLS], words: [u64; base::WORDS]) {
-    let mut r = rules;
-    let mut c = cells;
-    let mut w = words;
-    let answer = generator::restart(&mut r, &mut c, &mut w);
-    print_call(b" R", answer.number());
-    print_left(&rules, &cells, &words, &r, &c, &w);
-}
-
-// Over a link buffer that is not zero.
-fn try_parse(
-    rules: [u8; base::RULES],
-    cells: [u8; base::CELLS],
-    words: [u64; base::WORDS],
-    line: &[u8],
-) {
-    let mut r = rules;
-    let mut c = cells;
-    let mut w = words;
-    let mut links = [7u16; base::LINKS];
-    let verdict = recogniser::parse(&mut r, &mut c, &mut w, &mut links, base::POOL, line);
-    let answer = verdict.answer;
-    print_call(b" P", answer.number());
-    print_number(verdict.links);
-    print_links(&links, answer.number());
-    print_left(&rules, &cells, &words, &r, &c, &w);
-}
-
-// ` G 0`
-fn print_call(name: &[u8], answer: u8) {
-    io::write_all(1, name);
-    print_number(answer as usize);
+    print_left(t, left);
 }
 
 fn print_number(n: usize) {
@@ -114,77 +37,53 @@ fn print_number(n: usize) {
     io::print_decimal(1, n as u64);
 }
 
-// Prints what the call left of the numbers; says whether it left them out of form.
-fn print_left(rules: &[u8], cells: &[u8], words: &[u64], r: &[u8], c: &[u8], w: &[u64]) -> bool {
-    if !same_beyond(rules, cells, words, r, c, w) {
+fn print_left(t: Lent, left: Lent) {
+    let rules = left.rules;
+    if !same_beyond(t, left, rules[0], rules[1]) {
         io::write_all(1, b"!");
-        return false;
+        return;
     }
-    if same_bytes(rules, r, 0) && same_bytes(cells, c, 0) && same_words(words, w, 0) {
+    if same(t, left, 0, 0, 0) {
         io::write_all(1, b"=");
-        return false;
+        return;
     }
-    if form::is_formed(r, c, w) {
+    if left.is_formed() {
         io::write_all(1, b"+");
-        return false;
+        return;
     }
     io::write_all(1, b"-");
-    true
+    let next = left.collect();
+    print_number(next.answer as usize);
 }
 
-// What Collect answers to a table that a call left out of form.
-fn print_next(rules: &mut [u8], cells: &mut [u8], words: &mut [u64]) {
-    let answer = generator::collect(rules, cells, words);
-    print_number(answer.number() as usize);
+// Whether the numbers beyond pools of these sizes are the same.
+fn same_beyond(t: Lent, left: Lent, sets: u8, places: u8) -> bool {
+    let sets = sets as usize;
+    let places = places as usize;
+    same(
+        t,
+        left,
+        table::SIZES + places * table::RULE,
+        sets * table::ROW,
+        sets * kernels::SET_WORDS,
+    )
 }
 
-// A refused parse leaves the link buffer as it was, any other leaves the pool's part zero; beyond it nothing is touched.
-fn print_links(links: &[u16], answer: u8) {
-    let end = 6 * (base::POOL + 1);
-    if !all_are(links, end, base::LINKS, 7) {
-        io::write_all(1, b"!");
-        return;
-    }
-    if 10 <= answer && answer < 20 {
-        print_wrong(all_are(links, 0, end, 7));
-        return;
-    }
-    print_wrong(all_are(links, 0, end, 0));
-}
-
-fn print_wrong(right: bool) {
-    if !right {
-        io::write_all(1, b"!");
-    }
-}
-
-// Whether the numbers from `from` to `to` are all x.
-fn all_are(numbers: &[u16], from: usize, to: usize, x: u16) -> bool {
-    let mut i = from;
-    while i < to && i < numbers.len() {
-        if numbers[i] != x {
-            return false;
-        }
-        i += 1;
-    }
-    true
-}
-
-// Whether the numbers beyond the pools are the same, by the sizes that the call left.
-fn same_beyond(rules: &[u8], cells: &[u8], words: &[u64], r: &[u8], c: &[u8], w: &[u64]) -> bool {
-    let sets = byte_or_0(r, 0);
-    let places = byte_or_0(r, 1);
-    if !same_bytes(rules, r, 2 + places as usize * 10) {
+// Whether the two have the same numbers, from these places on.
+fn same(a: Lent, b: Lent, rule: usize, cell: usize, word: usize) -> bool {
+    let rules = a.rules;
+    let cells = a.cells;
+    let words = a.words;
+    let other_rules = b.rules;
+    let other_cells = b.cells;
+    let other_words = b.words;
+    if !same_bytes(&rules, &other_rules, rule) {
         return false;
     }
-    if !same_bytes(cells, c, sets as usize * 128) {
+    if !same_bytes(&cells, &other_cells, cell) {
         return false;
     }
-    same_words(words, w, sets as usize * 18)
-}
-
-fn byte_or_0(bytes: &[u8], i: usize) -> u8 {
-    if i < bytes.len() { bytes[i] } else { 0 }
+    same_words(&words, &other_words, word)
 }
 
 // Whether the two have the same bytes from `from` on.

@@ -1,8 +1,8 @@
 -- `all_are` is safe and ends: each turn leaves fewer numbers to look at. Assumes nothing.
 use Prim.Native.Nat.{_-_, _≤_}
 use borrow.Author.Needs.{needs}
-use Rattle.unmade.proofs.tried.all_are.Statement.{statement}
-use Rattle.unmade.proofs.tried.all_are.Tie as tie
+use Rattle.unmade.proofs.calls.all_are.Statement.{statement}
+use Rattle.unmade.proofs.calls.all_are.Tie as tie
 
 abbrev Inv-loop : tie.InvT-loop
 Inv-loop numbers from to x i₀ i = i₀ ≤ i
