@@ -26,8 +26,9 @@ use Rattle.table.proofs.OneOutcome.{SameLengths}
 use Rattle.form.proofs.OneOutcome as form
 use Rattle.generator.specs.Calls.{NewPromised}
 use Rattle.generator.proofs.OneOutcome as generator
-use Rattle.recogniser.specs.declared.Verdict.{Verdict}
-use Rattle.recogniser.specs.Parse.{numbersFor, Parses}
+use Rattle.links.specs.Records.{numbersFor}
+use Rattle.positions.specs.declared.Verdict.{Verdict}
+use Rattle.recogniser.specs.Parse.{Parses}
 use Rattle.recogniser.proofs.OneOutcome as recogniser
 use Rattle.demands.specs.Run.{Run}
 use Rattle.demands.proofs.Made.{run-holds, of-parse, of-change}

@@ -24,8 +24,9 @@ use Rattle.table.specs.Laid.{Formed}
 use Rattle.table.specs.Becomes.{Becomes, Promised}
 use Rattle.changes.specs.Change.{Fits}
 use Rattle.generator.specs.Calls.{NewPromised}
-use Rattle.recogniser.specs.declared.Verdict.{Verdict}
-use Rattle.recogniser.specs.Parse.{numbersFor, lentParse, Parses}
+use Rattle.links.specs.Records.{numbersFor}
+use Rattle.positions.specs.declared.Verdict.{Verdict}
+use Rattle.recogniser.specs.Parse.{lentParse, Parses}
 use Rattle.demands.specs.Run.{Run}
 use Rattle.demands.specs.Run.Run.{begun, new, add, delete, collect, restart, parse}
 

@@ -8,7 +8,7 @@ use Rattle.theory.specs.Made.Call.{new as new-call, add as add-call, delete as 
 use Rattle.table.specs.Layout.{Mem}
 use Rattle.table.specs.Becomes.{Promised}
 use Rattle.generator.specs.Calls.{NewPromised}
-use Rattle.recogniser.specs.declared.Verdict.{Verdict}
+use Rattle.positions.specs.declared.Verdict.{Verdict}
 use Rattle.recogniser.specs.Parse.{Parses}
 
 -- The lent numbers m after an accepted New, on any numbers, and any calls since, with any arguments, refused ones among them; R are

@@ -1,9 +1,7 @@
 -- The laws, in the order in which they build on each other.
 pub mod Bounds
 pub mod Rights
-pub mod Parts
 pub mod InUse
 pub mod Made
-pub mod Replied
 pub mod Obeyed
 pub mod OneOutcome

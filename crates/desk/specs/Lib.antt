@@ -1,4 +1,3 @@
 -- What the desk does for a line, and what it prints.
 pub mod Use
-pub mod Reply
 pub mod Obeys

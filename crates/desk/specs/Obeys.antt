@@ -16,7 +16,7 @@ use Rattle.table.specs.Laid.{Formed}
 use Rattle.table.specs.Becomes.{Promised}
 use Rattle.generator.specs.Calls.{NewPromised}
 use Rattle.recogniser.specs.Parse.{Parses}
-use Rattle.recogniser.specs.declared.Verdict.{Verdict}
+use Rattle.positions.specs.declared.Verdict.{Verdict}
 use Rattle.script.specs.Command.{Meaning, Means}
 use Rattle.script.specs.Command.Meaning.{new, add, delete, parse, collect, restart, list, malformed}
 use Rattle.script.specs.Puts.{Puts}

@@ -1,5 +1,5 @@
 // Each command's call, and the reply that it leaves.
-use super::reply::Reply;
+use replies::Reply;
 use symbols::Answer;
 ghost use mathlib.Core.Path.{_≡_};
 ghost use mathlib.Core.List.{List};
@@ -12,7 +12,7 @@ ghost use Rattle.theory.specs.Calls.{add, delete, collect, restart};
 ghost use Rattle.table.specs.Layout.{mem, view};
 ghost use Rattle.script.specs.Printed.{answerLine};
 ghost use Rattle.desk.specs.Use.{CountsUse};
-ghost use Rattle.desk.specs.Reply.{textOf, Printable};
+ghost use Rattle.replies.specs.Reply.{textOf, Printable};
 ghost use Rattle.desk.specs.Obeys.{here, state, Makes, Changes, Parsed, Collects, Lists};
 
 // "Here at most 128, 128 and 1,024": what the desk's pools hold.

@@ -1,14 +1,13 @@
 // A line to its command, its call and its text.
 use super::calls;
-use super::reply::Reply;
-use super::reply::put;
+use replies::Reply;
 use script::Command;
 use symbols::Answer;
 ghost use Prim.Native.Nat.{_+_, _≤_};
 ghost use lib.ListN.{length};
 ghost use Rattle.table.specs.Layout.{mem, view};
 ghost use Rattle.script.specs.Command.{symbolsOf, told};
-ghost use Rattle.desk.specs.Reply.{textOf, Printable};
+ghost use Rattle.replies.specs.Reply.{textOf, Printable};
 ghost use Rattle.desk.specs.Obeys.{state, Obeys, Prints};
 
 // What a command leaves beside the numbers: its reply, and the size of the link pool from then on.
@@ -99,7 +98,7 @@ pub fn answer(
     let command = script::read(line, &mut symbols);
     let done = obey(command, &symbols, rules, cells, words, links, pool);
     let reply = done.reply;
-    let end = put(reply, rules, cells, words, out, at);
+    let end = replies::put(reply, rules, cells, words, out, at);
     Answered {
         pool: done.pool,
         end,

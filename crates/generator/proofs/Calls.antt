@@ -16,8 +16,9 @@ use Rattle.table.specs.Layout.{Mem, mem, sets, rulesIn, view}
 use Rattle.table.specs.Laid.{Formed}
 use Rattle.table.specs.Becomes.{Becomes, Promised}
 use Rattle.changes.specs.Change.{placeOf, StartUnexpanded, Fits}
-use Rattle.generator.specs.declared.find.Found.{Found}
-use Rattle.generator.specs.Calls.{NewPromised, Does, DeleteFound, AddFound, addLater, LaterFree}
+use Rattle.checks.specs.declared.find.Found.{Found}
+use Rattle.checks.specs.Found.{addLater, DeleteFound, AddFound}
+use Rattle.generator.specs.Calls.{NewPromised, Does, LaterFree}
 use Rattle.generator.proofs.Promises.{kept, does-nothing, does}
 use Rattle.generator.proofs.Changing.{restart-becomes}
 

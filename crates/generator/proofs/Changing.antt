@@ -17,10 +17,11 @@ use Rattle.table.specs.Laid.{Formed, HasRow}
 use Rattle.table.specs.Becomes.{Becomes}
 use Rattle.changes.specs.Change.{placeOf, MayPut, startUnexpanded, StartUnexpanded}
 use Rattle.table.proofs.Becoming.{rules-seen, becomes-then}
-use Rattle.generator.specs.declared.find.Found.{Found}
-use Rattle.generator.specs.Find.{hasState, lowest}
-use Rattle.generator.specs.Calls.{Does, addLater, LaterFree, DeleteFound, AddFound}
-use Rattle.generator.proofs.Search.{free-is}
+use Rattle.checks.specs.declared.find.Found.{Found}
+use Rattle.checks.specs.Find.{hasState, lowest}
+use Rattle.checks.specs.Found.{addLater, DeleteFound, AddFound}
+use Rattle.checks.proofs.Search.{free-is}
+use Rattle.generator.specs.Calls.{Does, LaterFree}
 use Rattle.generator.proofs.Promises.{does, touched-length, collected-sets, collected-rules}
 
 -- ---- a number found, the rule put there

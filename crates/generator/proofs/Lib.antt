@@ -1,9 +1,4 @@
--- From the code's searches to the model's calls.
-pub mod States
-pub mod Search
-pub mod Checked
-pub mod Deleting
-pub mod Adding
+-- From the checks and the changes to the model's calls.
 pub mod Promises
 pub mod Changing
 pub mod Calls

@@ -1,3 +1,2 @@
 -- What the contracts of the calls cite.
-pub mod Find
 pub mod Calls

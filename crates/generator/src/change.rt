@@ -1,6 +1,5 @@
 // Add and Delete on a table in form: checked on `&` slices, then done.
 use super::Changed;
-use super::find;
 use symbols::Answer;
 use symbols::Rule;
 ghost use Rattle.symbols.specs.Answer.{numberOf};
@@ -9,7 +8,8 @@ ghost use Rattle.theory.specs.Calls.{addInForm, deleteInForm};
 ghost use Rattle.table.specs.Layout.{mem, view};
 ghost use Rattle.table.specs.Laid.{Formed};
 ghost use Rattle.changes.specs.Change.{placeOf};
-ghost use Rattle.generator.specs.Calls.{Does, addLater, LaterFree};
+ghost use Rattle.checks.specs.Found.{addLater};
+ghost use Rattle.generator.specs.Calls.{Does, LaterFree};
 
 // "a withdrawn rule that is equal takes its own number back. Otherwise the lowest free number; if none is free, collection comes first."
 pub fn add(rules: &mut [u8], cells: &mut [u8], words: &mut [u64], left: u8, right: &[u8]) -> Changed
@@ -18,7 +18,7 @@ pub fn add(rules: &mut [u8], cells: &mut [u8], words: &mut [u64], left: u8, righ
         (mem (now (rules .entry)) (now (cells .entry)) (now (words .entry))) (mem (now (rules .exit)) (now (cells .exit)) (now (words .exit)))
         (numberOf (r .answer)) (r .rule) ⌝ }
 {
-    let found = find::check_add(rules, left, right);
+    let found = checks::check_add(rules, left, right);
     let answer = found.answer;
     let rule = found.rule;
     let number = found.number;
@@ -44,7 +44,7 @@ fn add_later(rules: &mut [u8], cells: &mut [u8], words: &mut [u64], rule: Rule) 
         (numberOf (r .answer)) (r .rule) ⌝ }
 {
     collection::collect(rules, cells, words);
-    let number = find::lowest_free(rules);
+    let number = checks::lowest_free(rules);
     changes::put_rule(rules, cells, words, number, table::CURRENT, rule);
     Changed {
         answer: Answer::Done,
@@ -65,7 +65,7 @@ pub fn delete(
         (mem (now (rules .entry)) (now (cells .entry)) (now (words .entry))) (mem (now (rules .exit)) (now (cells .exit)) (now (words .exit)))
         (numberOf (r .answer)) (r .rule) ⌝ }
 {
-    let found = find::check_delete(rules, left, right);
+    let found = checks::check_delete(rules, left, right);
     let answer = found.answer;
     let rule = found.rule;
     let number = found.number;

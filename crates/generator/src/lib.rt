@@ -22,8 +22,6 @@ ghost use Rattle.table.specs.Becomes.{Promised};
 ghost use Rattle.generator.specs.Calls.{NewPromised};
 
 mod change; // change.rt: Add and Delete on a table in form
-mod find; // find.rt: their checks
-mod pool; // pool.rt: New's check
 
 // What Add and Delete answer: the number of the rule, 0 on a refusal.
 pub struct Changed {
@@ -42,7 +40,7 @@ pub fn new(
     ensures { λ a. ⌜ NewPromised (mem (now (rules .entry)) (now (cells .entry)) (now (words .entry))) (mem (now (rules .exit)) (now (cells .exit)) (now (words .exit)))
         sets places (numberOf a) ⌝ }
 {
-    if !pool::fits(rules, cells, words, sets, places) {
+    if !checks::fits(rules, cells, words, sets, places) {
         return Answer::BadPool;
     }
     changes::make(rules, cells, words, sets, places);

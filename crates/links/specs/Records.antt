@@ -8,6 +8,10 @@ use lib.ListN.{getD, set}
 use Rattle.theory.specs.Parse.{Link, link}
 use Rattle.links.specs.declared.Counts.{Counts}
 
+-- the numbers of the link buffer that a pool takes: the root's record, and one for each link
+abbrev pub numbersFor : ℕ → ℕ
+numbersFor pool = (pool + 1) * 6
+
 abbrev pub source : List ℕ → ℕ → ℕ
 source b k = getD b (k * 6) 0
 

@@ -3,8 +3,8 @@
 // The text that was read and not yet run stands at the beginning of a buffer, and more is read behind it. Its lines are run
 // where they stand, and the rest, the beginning of a line, is moved to the front. Of a rest longer than any good line only so
 // much is kept that it stays too long: the line is malformed whatever follows, so a script of any length goes through.
-use desk::ROOM;
 use libc::STDOUT_FILENO;
+use replies::ROOM;
 ghost use mathlib.Core.Path.{_≡_};
 ghost use Prim.Native.Nat.{_+_, _≤_, min};
 ghost use lib.ListN.{length};

@@ -14,7 +14,7 @@ use Rattle.table.specs.Layout.{Mem}
 use Rattle.table.proofs.OneOutcome.{SameLengths}
 use Rattle.form.proofs.OneOutcome as form
 use Rattle.links.specs.Held.{Cleared}
-use Rattle.recogniser.specs.declared.Verdict.{Verdict}
+use Rattle.positions.specs.declared.Verdict.{Verdict}
 use Rattle.recogniser.specs.Parse.{Past, Parses}
 
 past-or-not : (a : ℕ) → Past a ⊎ (Past a → ⊥)

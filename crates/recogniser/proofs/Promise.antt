@@ -23,15 +23,16 @@ use Rattle.theory.proofs.ParseCall.{past-checks, outcome-of-steps}
 use Rattle.table.specs.Layout.{Mem, view}
 use Rattle.table.specs.Laid.{Formed}
 use Rattle.table.specs.Becomes.{Becomes}
+use Rattle.links.specs.Records.{numbersFor}
 use Rattle.links.specs.Held.{Cleared}
 use Rattle.laws.proofs.Tests.{fails}
-use Rattle.recogniser.specs.declared.Verdict.{Verdict}
+use Rattle.positions.specs.declared.Verdict.{Verdict}
+use Rattle.positions.specs.Reading.{Readable, Reads}
+use Rattle.positions.proofs.Kept.{kept-none}
 use Rattle.recogniser.specs.declared.refusals.Checked.the-variants.{Passed, Refused}
-use Rattle.recogniser.specs.Parse.{numbersFor, lentParse, Past, Parses}
-use Rattle.recogniser.specs.Reading.{Readable, Reads}
+use Rattle.recogniser.specs.Parse.{lentParse, Past, Parses}
 use Rattle.recogniser.specs.Check.{Refusal, Checks}
 use Rattle.recogniser.specs.Check.Refusal.{bad-table, large-pool, short-buffer, long-line, bad-token}
-use Rattle.recogniser.proofs.Kept.{kept-none}
 
 between : {a : ℕ} → Past a → 2 < a → a < 20 → ⊥
 between q h k = ⊎-elim (λ e. omega arith) (⊎-elim (λ e. omega arith) (⊎-elim (λ e. omega arith) (λ e. omega arith))) q

@@ -9,8 +9,8 @@ use Rattle.symbols.specs.declared.answer.Answer.the-variants.{BadPool, BadTable
 use Rattle.theory.specs.Calls.{allTokens}
 use Rattle.table.specs.Layout.{Mem}
 use Rattle.table.specs.Laid.{Formed}
-use Rattle.recogniser.specs.Parse.{numbersFor}
-use Rattle.recogniser.specs.Reading.{Readable}
+use Rattle.links.specs.Records.{numbersFor}
+use Rattle.positions.specs.Reading.{Readable}
 use Rattle.recogniser.specs.declared.refusals.Checked.{Checked}
 use Rattle.recogniser.specs.declared.refusals.Checked.the-variants.{Passed, Refused}
 

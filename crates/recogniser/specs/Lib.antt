@@ -1,4 +1,3 @@
 -- The definitions that the contracts cite.
 pub mod Parse
-pub mod Reading
 pub mod Check

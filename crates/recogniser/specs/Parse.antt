@@ -2,7 +2,7 @@
 use mathlib.Core.Path.{_≡_}
 use mathlib.Core.Logic.{_⊎_}
 use mathlib.Core.List.{List}
-use Prim.Native.Nat.{ℕ, _+_, _*_}
+use Prim.Native.Nat.{ℕ}
 use lib.Dec.{leb}
 use lib.ListN.{length}
 use Rattle.laws.specs.Choice.{when}
@@ -12,12 +12,9 @@ use Rattle.theory.specs.Parse.{Outcome}
 use Rattle.theory.specs.Calls.{refused, checked, parse}
 use Rattle.table.specs.Layout.{Mem}
 use Rattle.table.specs.Becomes.{Promised}
+use Rattle.links.specs.Records.{numbersFor}
 use Rattle.links.specs.Held.{Cleared}
-use Rattle.recogniser.specs.declared.Verdict.{Verdict}
-
--- the numbers of the link buffer that a pool takes
-abbrev pub numbersFor : ℕ → ℕ
-numbersFor pool = (pool + 1) * 6
+use Rattle.positions.specs.declared.Verdict.{Verdict}
 
 -- Parse over a lent link buffer: "BAD-POOL: .. Parse's link size outside its range, or the slices lent for them too short"
 abbrev pub lentParse : List ℕ → ℕ → List ℕ → Table → Outcome

@@ -14,24 +14,18 @@
 // same line may succeed when it comes again with more room. Every number that lies beyond the pools, of the table or of the
 // buffer, is left as it was; the pool's part of the buffer is all zero after every parse that got past its checks.
 //
-// refusals.rt has the checks, line.rt the positions of a line. What `parse` promises stands in specs/Parse.antt, and what that says
-// of lines and grammars in the crate `demands`.
+// refusals.rt has the checks; the crate `positions` goes through the line. What `parse` promises stands in specs/Parse.antt, and what
+// that says of lines and grammars in the crate `demands`.
 ghost use lib.ListN.{length};
 ghost use Rattle.table.specs.Layout.{mem};
+ghost use Rattle.links.specs.Records.{numbersFor};
 ghost use Rattle.links.specs.Held.{Cleared};
-ghost use Rattle.recogniser.specs.Parse.{numbersFor, Parses};
-ghost use Rattle.recogniser.specs.Reading.{Readable, Reads};
+ghost use Rattle.positions.specs.Reading.{Readable, Reads};
+ghost use Rattle.recogniser.specs.Parse.{Parses};
+use positions::Verdict;
 use refusals::Checked;
-use symbols::Answer;
 
 mod refusals; // refusals.rt: what is refused before anything is touched
-mod line; // line.rt: the positions of a line, one after the other
-
-// What a parse answers: its answer, and the number of links in the graph at the end, 0 on a refusal.
-pub struct Verdict {
-    pub answer: Answer,
-    pub links: usize,
-}
 
 // Parses the line over a pool of so many links.
 pub fn parse(
@@ -70,7 +64,7 @@ fn run(
     let n = (pool + 1) * links::RECORD;
     let mut at: [u16; 256] = [0; 256];
     let mut work: [u16; levels::WORK] = [0; levels::WORK];
-    let v = line::read(
+    let v = positions::read(
         rules,
         cells,
         words,

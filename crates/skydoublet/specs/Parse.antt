@@ -4,7 +4,7 @@ use mathlib.Core.List.{List}
 use Prim.Native.Nat.{ℕ}
 use Rattle.table.specs.Layout.{Mem}
 use Rattle.symbols.specs.Answer.{numberOf}
-use Rattle.recogniser.specs.declared.Verdict.{Verdict}
+use Rattle.positions.specs.declared.Verdict.{Verdict}
 use Rattle.recogniser.specs.Parse.{Parses}
 
 -- the recogniser's promise holds of a verdict with the answer number a and k links

@@ -1,0 +1,3 @@
+-- What the contracts of the checks cite.
+pub mod Find
+pub mod Found

@@ -1,0 +1,145 @@
+-- `positions::settle::settle` meets its contract. The invariant: the steps from here lead to the outcome of the steps at first (`Settling`). Each turn
+-- but the last leaves one more expanded set of a node here. Assumes nothing.
+use Rattle.positions.proofs.Settling.{waiting-at, Settling, settling-start, settling-over, settling-ready, settling-expandable, settling-no-sets, settling-next, settling-less}
+use mathlib.Core.Path.{_≡_, refl}
+use native.Mathlib.Omega.{arith}
+use lib.ListN.{length}
+use Rattle.table.specs.Layout.{mem, view}
+use Rattle.links.specs.Records.{graph, linksOf}
+use Rattle.positions.proofs.Ends.{came-ready, came-refused}
+use Rattle.positions.proofs.Turns.{turnsLeft}
+use borrow.Author.Needs.{needs}
+use Rattle.positions.proofs.settle.settle.Statement.{statement}
+use Rattle.positions.proofs.settle.settle.Tie as tie
+
+abbrev Inv-loop : tie.InvT-loop
+Inv-loop rules₀ cells₀ words₀ buf₀ at₀ work₀ here d₀ rules cells words buf at work d =
+    ((length rules ≡ length rules₀) × (length cells ≡ length cells₀) × (length words ≡ length words₀)
+    × (length buf ≡ length buf₀) × (length at ≡ length at₀) × (length work ≡ length work₀))
+    × Settling here (mem rules₀ cells₀ words₀) (graph buf₀ at₀ d₀) (mem rules cells words) (graph buf at d)
+
+abbrev μ-loop : tie.MeasureT-loop
+μ-loop rules₀ cells₀ words₀ buf₀ at₀ work₀ here d₀ rules cells words buf at work d = turnsLeft (view (mem rules cells words)) (linksOf (graph buf at d)) (here .position)
+
+loop-holds : tie.Need-loop-holds Inv-loop μ-loop
+loop-holds c = ((refl, refl, refl, refl, refl, refl), settling-start (c .before .before .before .before .before .before .pre .0))
+
+saturate-requires : tie.Need-saturate-requires Inv-loop μ-loop
+saturate-requires c κs = let turn = c .before .before .before .before .before .before .loop .inv in let now = turn .1 .stands in ((now .held, (now .in-pool, omega (arith, turn .0 .5, c .before .before .before .before .before .before .before .before .before .before .before .before .before .pre .1))), (now .formed, now .sets))
+
+same-length : tie.Need-same-length Inv-loop μ-loop
+same-length c = omega (arith, c .before .before .before .before .before .before .before .before .before .before .before .before .before .before .before .loop .inv .0 .0)
+
+same-length-2 : tie.Need-same-length-2 Inv-loop μ-loop
+same-length-2 c = omega (arith, c .before .before .before .before .before .before .before .before .before .before .before .before .before .before .before .loop .inv .0 .1)
+
+same-length-3 : tie.Need-same-length-3 Inv-loop μ-loop
+same-length-3 c = omega (arith, c .before .before .before .before .before .before .before .before .before .before .before .before .before .before .before .loop .inv .0 .2)
+
+same-length-4 : tie.Need-same-length-4 Inv-loop μ-loop
+same-length-4 c = omega (arith, c .before .before .before .before .before .before .before .before .before .before .before .before .before .before .before .loop .inv .0 .3)
+
+same-length-5 : tie.Need-same-length-5 Inv-loop μ-loop
+same-length-5 c = omega (arith, c .before .before .before .before .before .before .before .before .before .before .before .before .before .before .before .loop .inv .0 .4)
+
+same-length-6 : tie.Need-same-length-6 Inv-loop μ-loop
+same-length-6 c = omega (arith, c .before .before .before .before .before .before .before .before .before .before .before .before .before .before .before .loop .inv .0 .5)
+
+returns : tie.Need-returns Inv-loop μ-loop
+returns c = came-refused (settling-over (c .before .before .before .before .before .before .before .before .before .before .before .before .before .before .before .loop .inv .1) (c .before .before .before .before .before .before .before .before .saturate .ensures) (c .if1 .taken))
+
+first-waiting-requires : tie.Need-first-waiting-requires Inv-loop μ-loop
+first-waiting-requires c κs = let now = c .before .before .before .before .before .before .before .before .before .before .before .before .before .before .before .before .before .before .before .loop .inv .1 .stands in ((_, c .before .before .before .before .before .before .before .before .before .before .before .before .saturate .ensures .held), (now .formed, now .sets))
+
+enum-known-f : tie.Need-enum-known-f Inv-loop μ-loop
+enum-known-f c = search needs
+
+enum-told : tie.Need-enum-told Inv-loop μ-loop
+enum-told c = search needs
+
+same-length-7 : tie.Need-same-length-7 Inv-loop μ-loop
+same-length-7 c = omega (arith, c .before .before .before .before .before .before .before .before .before .before .before .before .before .before .before .before .before .before .before .before .before .before .loop .inv .0 .0)
+
+same-length-8 : tie.Need-same-length-8 Inv-loop μ-loop
+same-length-8 c = omega (arith, c .before .before .before .before .before .before .before .before .before .before .before .before .before .before .before .before .before .before .before .before .before .before .loop .inv .0 .1)
+
+same-length-9 : tie.Need-same-length-9 Inv-loop μ-loop
+same-length-9 c = omega (arith, c .before .before .before .before .before .before .before .before .before .before .before .before .before .before .before .before .before .before .before .before .before .before .loop .inv .0 .2)
+
+same-length-10 : tie.Need-same-length-10 Inv-loop μ-loop
+same-length-10 c = omega (arith, c .before .before .before .before .before .before .before .before .before .before .before .before .before .before .before .before .before .before .before .before .before .before .loop .inv .0 .3)
+
+same-length-11 : tie.Need-same-length-11 Inv-loop μ-loop
+same-length-11 c = omega (arith, c .before .before .before .before .before .before .before .before .before .before .before .before .before .before .before .before .before .before .before .before .before .before .loop .inv .0 .4)
+
+same-length-12 : tie.Need-same-length-12 Inv-loop μ-loop
+same-length-12 c = omega (arith, c .before .before .before .before .before .before .before .before .before .before .before .before .before .before .before .before .before .before .before .before .before .before .loop .inv .0 .5)
+
+returns-2 : tie.Need-returns-2 Inv-loop μ-loop
+returns-2 c = came-ready (settling-ready (c .before .before .before .before .before .before .before .before .before .before .before .before .before .before .before .before .before .before .before .before .before .before .loop .inv .1) (c .before .before .before .before .before .before .before .before .before .before .before .before .before .before .before .saturate .ensures) (let h = c .before .before .before .before .before .before .before .if1 .left in omega arith) (c .before .before .first-waiting .ensures) (c .enum-told .given .1))
+
+expand-requires : tie.Need-expand-requires Inv-loop μ-loop
+expand-requires c κs = settling-expandable (c .before .before .before .before .before .before .before .before .before .before .before .before .before .before .before .before .before .before .before .before .before .before .before .before .before .before .loop .inv .1) (c .before .before .before .before .before .before .before .before .before .before .before .before .before .before .before .before .before .before .before .saturate .ensures) (let h = c .before .before .before .before .before .before .before .before .before .before .before .if1 .left in omega arith) (waiting-at (c .before .before .before .before .before .before .first-waiting .ensures) (c .before .before .before .before .f .given .1))
+
+same-length-13 : tie.Need-same-length-13 Inv-loop μ-loop
+same-length-13 c = omega (arith, c .before .before .before .before .before .before .before .before .before .before .before .before .before .before .before .before .before .before .before .before .before .before .before .before .before .before .before .before .before .before .before .before .before .before .loop .inv .0 .0)
+
+same-length-14 : tie.Need-same-length-14 Inv-loop μ-loop
+same-length-14 c = omega (arith, c .before .before .before .before .before .before .before .before .before .before .before .before .before .before .before .before .before .before .before .before .before .before .before .before .before .before .before .before .before .before .before .before .before .before .loop .inv .0 .1)
+
+same-length-15 : tie.Need-same-length-15 Inv-loop μ-loop
+same-length-15 c = omega (arith, c .before .before .before .before .before .before .before .before .before .before .before .before .before .before .before .before .before .before .before .before .before .before .before .before .before .before .before .before .before .before .before .before .before .before .loop .inv .0 .2)
+
+same-length-16 : tie.Need-same-length-16 Inv-loop μ-loop
+same-length-16 c = omega (arith, c .before .before .before .before .before .before .before .before .before .before .before .before .before .before .before .before .before .before .before .before .before .before .before .before .before .before .before .before .before .before .before .before .before .before .loop .inv .0 .3)
+
+same-length-17 : tie.Need-same-length-17 Inv-loop μ-loop
+same-length-17 c = omega (arith, c .before .before .before .before .before .before .before .before .before .before .before .before .before .before .before .before .before .before .before .before .before .before .before .before .before .before .before .before .before .before .before .before .before .before .loop .inv .0 .4)
+
+same-length-18 : tie.Need-same-length-18 Inv-loop μ-loop
+same-length-18 c = omega (arith, c .before .before .before .before .before .before .before .before .before .before .before .before .before .before .before .before .before .before .before .before .before .before .before .before .before .before .before .before .before .before .before .before .before .before .loop .inv .0 .5)
+
+returns-3 : tie.Need-returns-3 Inv-loop μ-loop
+returns-3 c = came-refused (settling-no-sets (c .before .before .before .before .before .before .before .before .before .before .before .before .before .before .before .before .before .before .before .before .before .before .before .before .before .before .before .before .before .before .before .before .before .before .loop .inv .1) (c .before .before .before .before .before .before .before .before .before .before .before .before .before .before .before .before .before .before .before .before .before .before .before .before .before .before .before .saturate .ensures) (let h = c .before .before .before .before .before .before .before .before .before .before .before .before .before .before .before .before .before .before .before .if1 .left in omega arith) (waiting-at (c .before .before .before .before .before .before .before .before .before .before .before .before .before .before .first-waiting .ensures) (c .before .before .before .before .before .before .before .before .before .before .before .before .f .given .1)) (c .before .before .before .before .before .before .before .expand .ensures) (c .if2 .taken))
+
+loop-less : tie.Need-loop-less Inv-loop μ-loop
+loop-less c = settling-less (c .before .before .before .before .before .before .before .before .before .before .before .before .before .before .before .before .before .before .before .before .before .before .before .before .before .before .before .before .before .before .before .before .before .before .loop .inv .1) (c .before .before .before .before .before .before .before .before .before .before .before .before .before .before .before .before .before .before .before .before .before .before .before .before .before .before .before .saturate .ensures) (let h = c .before .before .before .before .before .before .before .before .before .before .before .before .before .before .before .before .before .before .before .if1 .left in omega arith) (waiting-at (c .before .before .before .before .before .before .before .before .before .before .before .before .before .before .first-waiting .ensures) (c .before .before .before .before .before .before .before .before .before .before .before .before .f .given .1)) (c .before .before .before .before .before .before .before .expand .ensures) (c .if2 .left)
+
+loop-again : tie.Need-loop-again Inv-loop μ-loop
+loop-again c = (let same = c .before .before .before .before .before .before .before .before .before .before .before .before .before .before .before .before .before .before .before .before .before .before .before .before .before .before .before .before .before .before .before .before .before .before .loop .inv .0 in (omega (arith, same .0), omega (arith, same .1), omega (arith, same .2), omega (arith, same .3), omega (arith, same .4), omega (arith, same .5)), settling-next (c .before .before .before .before .before .before .before .before .before .before .before .before .before .before .before .before .before .before .before .before .before .before .before .before .before .before .before .before .before .before .before .before .before .before .loop .inv .1) (c .before .before .before .before .before .before .before .before .before .before .before .before .before .before .before .before .before .before .before .before .before .before .before .before .before .before .before .saturate .ensures) (let h = c .before .before .before .before .before .before .before .before .before .before .before .before .before .before .before .before .before .before .before .if1 .left in omega arith) (waiting-at (c .before .before .before .before .before .before .before .before .before .before .before .before .before .before .first-waiting .ensures) (c .before .before .before .before .before .before .before .before .before .before .before .before .f .given .1)) (c .before .before .before .before .before .before .before .expand .ensures) (c .if2 .left))
+
+pub settle-spec : {M : Type 1} → statement M
+settle-spec =
+    tie.close
+    (tie.spec
+    Inv-loop
+    μ-loop
+    loop-holds
+    saturate-requires
+    same-length
+    same-length-2
+    same-length-3
+    same-length-4
+    same-length-5
+    same-length-6
+    returns
+    first-waiting-requires
+    enum-known-f
+    enum-told
+    same-length-7
+    same-length-8
+    same-length-9
+    same-length-10
+    same-length-11
+    same-length-12
+    returns-2
+    expand-requires
+    same-length-13
+    same-length-14
+    same-length-15
+    same-length-16
+    same-length-17
+    same-length-18
+    returns-3
+    loop-less
+    loop-again)

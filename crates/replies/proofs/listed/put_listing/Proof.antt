@@ -1,0 +1,65 @@
+-- `put_listing` meets its contract. Assumes nothing.
+use mathlib.Core.Path.{_≡_, ap, _∙_}
+use Prim.Native.Nat.{_+_, _-_, _*_, _≤_, zero-le}
+use native.Mathlib.Omega.{arith}
+use borrow.Author.Needs.{needs}
+use Rattle.table.specs.Layout.{setsIn, mem, view}
+use Rattle.script.proofs.Putting.{puts-then, puts-as}
+use Rattle.listing.specs.Printed.{body}
+use Rattle.listing.specs.Walk.{listed, used}
+use Rattle.listing.proofs.Seen.{listing-seen}
+use Rattle.listing.proofs.Walks.{Put, put-none, put-turn}
+use Rattle.replies.proofs.listed.put_listing.Statement.{statement}
+use Rattle.replies.proofs.listed.put_listing.Tie as tie
+
+abbrev Inv-loop : tie.InvT-loop
+Inv-loop rules cells words out₀ at sets end₀ s₀ out end s = (s ≤ sets) × (end ≤ end₀ + 8192 * s) × Put (used cells) (body (view (mem rules cells words))) 0 s out₀ end₀ out end
+
+abbrev μ-loop : tie.MeasureT-loop
+μ-loop rules cells words out₀ at sets end₀ s₀ out end s = sets - s
+
+sets-in-requires : tie.Need-sets-in-requires Inv-loop μ-loop
+sets-in-requires c κs = search needs
+
+put-contents-requires : tie.Need-put-contents-requires Inv-loop μ-loop
+put-contents-requires c κs = let z = c .before .before .before .before .before .before .pre .0 .sized in (omega (arith, c .before .sets-in .ensures, z .few-sets), omega (arith, c .before .sets-in .ensures, z .cells), omega (arith, c .before .before .before .before .before .before .pre .1))
+
+loop-holds : tie.Need-loop-holds Inv-loop μ-loop
+loop-holds c = (omega arith, omega arith, put-none)
+
+put-body-requires : tie.Need-put-body-requires Inv-loop μ-loop
+put-body-requires c κs = let z = c .before .before .before .before .before .before .before .before .before .before .before .before .pre .0 .sized in let w = c .before .before .loop .inv .2 in
+    (c .before .before .before .before .before .before .before .before .before .before .before .before .pre .0, (omega (arith, c .before .loop-test .taken, c .before .before .before .before .before .before .before .sets-in .ensures), omega (arith, c .before .loop-test .taken, c .before .before .before .before .before .before .before .sets-in .ensures, z .cells, c .before .before .before .before .before .before .before .before .before .before .before .before .pre .1, c .before .before .loop .inv .1, c .before .before .before .before .before .put-contents .ensures .0, w .same-length, c .before .before .before .before .before .put-contents .kept .1 .1 .0)))
+
+add-s : tie.Need-add-s Inv-loop μ-loop
+add-s c = search needs
+
+loop-less : tie.Need-loop-less Inv-loop μ-loop
+loop-less c = search needs
+
+loop-again : tie.Need-loop-again Inv-loop μ-loop
+loop-again c = (omega arith, omega (arith, c .before .before .put-body .ensures .0, c .before .before .before .before .before .loop .inv .1), put-turn (c .before .before .before .before .before .loop .inv .2) (c .before .before .put-body .kept .1 .1 .1 .1 .0) zero-le (c .before .before .put-body .ensures .1))
+
+same-length : tie.Need-same-length Inv-loop μ-loop
+same-length c = c .before .loop .inv .2 .same-length ∙ c .before .before .before .before .put-contents .kept .1 .1 .0
+
+returns : tie.Need-returns Inv-loop μ-loop
+returns c = let e : c .before .loop .s ≡ setsIn (c .before .before .before .before .before .before .before .before .before .before .before .args .rules .now) = omega (arith, c .loop-test .left, c .before .loop .inv .0, c .before .before .before .before .before .before .sets-in .ensures) in
+    let m = mem (c .before .before .before .before .before .before .before .before .before .before .before .args .rules .now) (c .before .before .before .before .before .before .before .before .before .before .before .args .cells .now) (c .before .before .before .before .before .before .before .before .before .before .before .args .words .now) in
+    puts-as (listing-seen m) (puts-then (c .before .before .before .before .put-contents .ensures .1 (c .before .before .before .before .before .before .before .before .before .before .before .args .rules .now) (c .before .before .before .before .before .before .before .before .before .before .before .args .words .now) (c .before .before .before .before .before .before .sets-in .ensures)) (puts-as (ap (listed (used (c .before .before .before .before .before .before .before .before .before .before .before .args .cells .now)) (body (view m)) 0) e) (c .before .loop .inv .2 .puts)))
+
+pub put-listing-spec : {M : Type 1} → statement M
+put-listing-spec =
+    tie.close
+    (tie.spec
+    Inv-loop
+    μ-loop
+    sets-in-requires
+    put-contents-requires
+    loop-holds
+    put-body-requires
+    add-s
+    loop-less
+    loop-again
+    same-length
+    returns)
