@@ -14,7 +14,7 @@ use Rattle.theory.proofs.Counted.{kept-and-not}
 use Rattle.table.specs.Layout.{Mem, setsIn, rulesIn, setSeen, view}
 use Rattle.table.specs.Becomes.{Promised}
 use Rattle.form.proofs.Formed.{formed-dec}
-use Rattle.script.specs.Printed.{parseLine, pastChecks, collectLine}
+use Rattle.replies.specs.Printed.{parseLine, pastChecks, collectLine}
 use Rattle.desk.specs.Use.{CountsUse}
 
 pub use-small : (m : Mem) → inUse (view m) ≤ setsIn (m .rules)

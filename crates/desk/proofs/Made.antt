@@ -10,7 +10,7 @@ use Rattle.laws.specs.Choice.{_and_, when}
 use Rattle.laws.proofs.Choice.{when-yes, when-no}
 use Rattle.table.specs.Layout.{Mem}
 use Rattle.generator.specs.Calls.{NewPromised}
-use Rattle.script.specs.Printed.{answerLine}
+use Rattle.replies.specs.Printed.{answerLine}
 use Rattle.desk.specs.Obeys.{here, state, Makes}
 
 -- ---- the sizes that the desk's pools hold

@@ -17,9 +17,9 @@ use Rattle.form.proofs.OneOutcome as form
 use Rattle.generator.proofs.OneOutcome as generator
 use Rattle.recogniser.proofs.OneOutcome as recogniser
 use Rattle.script.specs.Command.{Meaning}
-use Rattle.script.specs.Printed.{answerLine, changeLine, parseLine, collectLine}
+use Rattle.replies.specs.Printed.{answerLine, changeLine, parseLine, collectLine}
 use Rattle.script.proofs.Meaning.{means-one}
-use Rattle.script.proofs.Putting.{puts-as, puts-one}
+use Rattle.text.proofs.Putting.{puts-as, puts-one}
 use Rattle.desk.specs.Obeys.{here, State, Makes, Keeps, Changes, Parsed, Collects, Lists, Obeys, Answers, Prints}
 use Rattle.desk.specs.Obeys.Obeys.{makes, adds, deletes, parses, collects, restarts, lists, skips}
 

@@ -19,8 +19,8 @@ use Rattle.recogniser.specs.Parse.{Parses}
 use Rattle.positions.specs.declared.Verdict.{Verdict}
 use Rattle.script.specs.Command.{Meaning, Means}
 use Rattle.script.specs.Command.Meaning.{new, add, delete, parse, collect, restart, list, malformed}
-use Rattle.script.specs.Puts.{Puts}
-use Rattle.script.specs.Printed.{answerLine, changeLine, parseLine, collectLine}
+use Rattle.text.specs.Puts.{Puts}
+use Rattle.replies.specs.Printed.{answerLine, changeLine, parseLine, collectLine}
 use Rattle.listing.specs.Printed.{listing}
 
 -- what the program keeps from line to line: the table's numbers, the link buffer, and the size of the link pool

@@ -10,7 +10,7 @@ ghost use Rattle.laws.specs.Choice.{when};
 ghost use Rattle.symbols.specs.Answer.{numberOf};
 ghost use Rattle.theory.specs.Calls.{add, delete, collect, restart};
 ghost use Rattle.table.specs.Layout.{mem, view};
-ghost use Rattle.script.specs.Printed.{answerLine};
+ghost use Rattle.replies.specs.Printed.{answerLine};
 ghost use Rattle.desk.specs.Use.{CountsUse};
 ghost use Rattle.replies.specs.Reply.{textOf, Printable};
 ghost use Rattle.desk.specs.Obeys.{here, state, Makes, Changes, Parsed, Collects, Lists};

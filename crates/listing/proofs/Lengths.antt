@@ -9,8 +9,8 @@ use lib.ListN.{length, length-append}
 use Rattle.laws.specs.Choice.{when}
 use Rattle.laws.proofs.Choice.{when-cases}
 use Rattle.kernels.specs.Kernel.{holds}
-use Rattle.script.specs.Text.{SPACE, decimal}
-use Rattle.script.proofs.Decimal.{by-width, decimal-1, decimal-2, decimal-3}
+use Rattle.text.specs.Text.{SPACE, decimal}
+use Rattle.text.proofs.Decimal.{by-width, decimal-1, decimal-2, decimal-3}
 use Rattle.listing.specs.Printed.{acceptText}
 use Rattle.listing.specs.Walk.{listed, cellAt, used, entryOf, itemOf, leads, transitionOf, reductionOf, expandedOf}
 use Rattle.listing.proofs.Listed.{listed-length}

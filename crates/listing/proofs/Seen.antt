@@ -16,7 +16,7 @@ use Rattle.theory.specs.Table.{EXPANDED, Item, SetPlace, item, setAt, allItems}
 use Rattle.table.specs.Layout.{Sets, Mem, sets, setsIn, rulesIn, stateOf, transition, kernelSeen, transitionsSeen, reductionsSeen, setSeen, viewSets, view}
 use Rattle.table.specs.Laid.{LaidSet, Laid}
 use Rattle.table.proofs.Read.{set-read}
-use Rattle.script.specs.Text.{SPACE, NEWLINE, decimal, spaced}
+use Rattle.text.specs.Text.{SPACE, NEWLINE, decimal, spaced}
 use Rattle.listing.specs.Printed.{setText, isExpanded, itemText, transitionText, contents, kernelText, transitionsText, reductionsText, acceptText, body, listing}
 use Rattle.listing.specs.Walk.{listed, used, entryOf, itemOf, leads, transitionOf, reductionOf, contentsOf, expandedOf, bodyOf}
 use Rattle.listing.proofs.Listed.{listed-skip, listed-below, listed-cong, keep-map, join-map}

@@ -9,9 +9,9 @@ use lib.ListN.{length}
 use borrow.Author.Tests.{lt-ltb, le-ltb, le-leb, lt-leb, eq-eqb, ne-eqb}
 use Rattle.laws.specs.Choice.{when}
 use Rattle.kernels.specs.Kernel.{has, holds, Least}
-use Rattle.script.specs.Puts.{Puts}
-use Rattle.script.proofs.Putting.{puts-none, puts-then, puts-as}
-use Rattle.script.specs.Text.{SPACE, decimal}
+use Rattle.text.specs.Puts.{Puts}
+use Rattle.text.proofs.Putting.{puts-none, puts-then, puts-as}
+use Rattle.text.specs.Text.{SPACE, decimal}
 use Rattle.listing.specs.Printed.{setText, acceptText}
 use Rattle.listing.specs.Walk.{listed, cellAt, leads, transitionOf, reductionOf, expandedOf}
 use Rattle.listing.proofs.Listed.{listed-none, listed-turn, listed-yes, listed-skip}

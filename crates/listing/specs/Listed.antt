@@ -4,7 +4,7 @@ use mathlib.Core.List.{List}
 use Prim.Native.Nat.{ℕ, _<_}
 use Rattle.table.specs.Layout.{mem, setsIn, view}
 use Rattle.table.specs.Laid.{Laid}
-use Rattle.script.specs.Puts.{Puts}
+use Rattle.text.specs.Puts.{Puts}
 use Rattle.listing.specs.Printed.{contents, body}
 
 -- the contents line, whatever the rules and the words are

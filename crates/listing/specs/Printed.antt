@@ -7,7 +7,7 @@ use lib.ListN.{length}
 use Rattle.laws.specs.Choice.{when}
 use Rattle.laws.specs.Lists.{joinMap, keep, upFrom}
 use Rattle.theory.specs.Table.{EXPANDED, Item, Transition, SetPlace, Table, setAt}
-use Rattle.script.specs.Text.{SPACE, NEWLINE, digit, decimal, spaced}
+use Rattle.text.specs.Text.{SPACE, NEWLINE, digit, decimal, spaced}
 
 -- the sets in use, ascending
 abbrev pub setsListed : Table → List ℕ

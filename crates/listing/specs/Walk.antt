@@ -9,7 +9,7 @@ use Rattle.laws.specs.Lists.{joinMap, keep, upFrom}
 use Rattle.kernels.specs.Kernel.{holds}
 use Rattle.theory.specs.Table.{item}
 use Rattle.table.specs.Layout.{transition}
-use Rattle.script.specs.Text.{SPACE, NEWLINE, decimal}
+use Rattle.text.specs.Text.{SPACE, NEWLINE, decimal}
 use Rattle.listing.specs.Printed.{setText, itemText, transitionText, acceptText}
 
 -- the texts of the numbers from a on and below b that pass, one after the other

@@ -1,16 +1,16 @@
 // The contents line of a listing.
-use script::put_byte;
-use script::put_spaced;
 use table::EXPANDED;
 use table::FREE;
 use table::mark;
+use text::put_byte;
+use text::put_spaced;
 ghost use mathlib.Core.Path.{_≡_};
 ghost use mathlib.Core.List.{[]};
 ghost use Prim.Native.Nat.{_+_, _*_, _≤_, _<_};
 ghost use lib.Dec.{leb};
 ghost use lib.ListN.{length};
 ghost use Rattle.laws.specs.Choice.{when};
-ghost use Rattle.script.specs.Puts.{Puts};
+ghost use Rattle.text.specs.Puts.{Puts};
 ghost use Rattle.listing.specs.Listed.{PutsContents};
 ghost use Rattle.listing.specs.Walk.{listed, used, entryOf};
 

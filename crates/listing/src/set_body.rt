@@ -1,12 +1,12 @@
 // The body of one set in a listing.
 use kernels::Found;
-use script::put_byte;
-use script::put_number;
-use script::put_spaced;
 use table::ACCEPTING;
 use table::EXPANDED;
 use table::mark;
 use table::target;
+use text::put_byte;
+use text::put_number;
+use text::put_spaced;
 ghost use mathlib.Core.Path.{_≡_};
 ghost use mathlib.Core.List.{[], _∷_};
 ghost use Prim.Native.Nat.{_+_, _*_, _≤_, _<_};
@@ -14,8 +14,8 @@ ghost use lib.Dec.{eqb, leb};
 ghost use lib.ListN.{length};
 ghost use Rattle.laws.specs.Choice.{when};
 ghost use Rattle.kernels.specs.Kernel.{holds};
-ghost use Rattle.script.specs.Text.{SPACE, digit};
-ghost use Rattle.script.specs.Puts.{Puts};
+ghost use Rattle.text.specs.Text.{SPACE, digit};
+ghost use Rattle.text.specs.Puts.{Puts};
 ghost use Rattle.listing.specs.Printed.{acceptText};
 ghost use Rattle.listing.specs.Listed.{PutsBody};
 ghost use Rattle.listing.specs.Walk.{listed, cellAt, itemOf, leads, transitionOf, reductionOf, expandedOf};

@@ -4,7 +4,7 @@ use mathlib.Core.List.{List}
 use Prim.Native.Nat.{ℕ, _≤_}
 use native.Mathlib.Omega.{arith}
 use lib.ListN.{length, take, length-take, length-append}
-use Rattle.script.specs.Puts.{Puts}
+use Rattle.text.specs.Puts.{Puts}
 
 pub puts-inside : {before after bytes : List ℕ} {at past : ℕ} → Puts before at after past bytes → at ≤ length before → past ≤ length after
 puts-inside {before} {after} {bytes} {at} {past} p h =

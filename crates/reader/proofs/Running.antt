@@ -6,7 +6,7 @@ use native.Mathlib.Omega.{arith}
 use lib.ListN.{length, take, drop, length-take, length-drop}
 use lib.Seq.{take-all, take-nil, take-take, take-add}
 use Rattle.bytes.specs.Bytes.{indexOf, slice}
-use Rattle.script.specs.Text.{NEWLINE}
+use Rattle.text.specs.Text.{NEWLINE}
 use Rattle.desk.specs.Obeys.{State, Answers}
 use Rattle.reader.specs.Lines.{Unbroken, RanLine, RanText}
 use Rattle.reader.specs.Lines.Run.{line}

@@ -5,7 +5,7 @@ use Prim.Native.Nat.{ℕ, _+_, _≤_}
 use native.Mathlib.Decide.{ℕ-discrete, decLe}
 use native.Mathlib.Omega.{arith}
 use lib.ListN.{length, take, length-take, length-append}
-use Rattle.script.specs.Puts.{Puts}
+use Rattle.text.specs.Puts.{Puts}
 use Rattle.reader.specs.Lines.{Ready, Waits}
 
 pub waits-none : (out : List ℕ) (used : ℕ) → used ≤ length out → Waits out used [] out used

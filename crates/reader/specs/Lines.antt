@@ -5,7 +5,7 @@ use mathlib.Core.Logic.{_≢_}
 use mathlib.Core.List.{List, [], _∷_, _++_, List·Memᴰ as In}
 use Prim.Native.Nat.{ℕ, _+_, _-_, _≤_, _<_}
 use lib.ListN.{length, take, drop}
-use Rattle.script.specs.Text.{NEWLINE}
+use Rattle.text.specs.Text.{NEWLINE}
 use Rattle.desk.specs.Obeys.{State, Answers, Prints}
 
 -- no newline stands in it

@@ -5,7 +5,7 @@ use Prim.Native.Nat.{ℕ, _+_, _≤_}
 use native.Mathlib.Omega.{arith}
 use lib.ListN.{length, take, drop, take-append-drop, length-take, length-drop}
 use lib.Seq.{take-append-le, take-append-add, drop-append-le, drop-append-add, drop-drop}
-use Rattle.script.specs.Puts.{Puts}
+use Rattle.text.specs.Puts.{Puts}
 
 -- k bytes of the text are lent from `at` on and come back as ys, with n of them put
 module _ (out : List ℕ) (at k : ℕ) (room : at + k ≤ length out) {ys : List ℕ} {n : ℕ} {bytes : List ℕ} (same : length ys ≡ length (take k (drop at out))) (p : Puts (take k (drop at out)) 0 ys n bytes) where

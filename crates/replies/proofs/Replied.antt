@@ -7,7 +7,7 @@ use Rattle.symbols.specs.declared.answer.Answer.{Answer}
 use Rattle.theory.specs.Table.{Table}
 use Rattle.table.specs.Layout.{Mem}
 use Rattle.table.specs.Laid.{Laid}
-use Rattle.script.specs.Printed.{answerLine, changeLine, parseLine, collectLine}
+use Rattle.replies.specs.Printed.{answerLine, changeLine, parseLine, collectLine}
 use Rattle.listing.specs.Printed.{listing}
 use Rattle.replies.specs.Reply.{textOf, Printable}
 use Rattle.replies.specs.declared.Reply.{Reply}

@@ -1,2 +1,3 @@
 -- What is printed for a reply.
+pub mod Printed
 pub mod Reply

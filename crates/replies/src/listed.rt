@@ -7,7 +7,7 @@ ghost use lib.ListN.{length};
 ghost use Rattle.laws.specs.Choice.{when};
 ghost use Rattle.table.specs.Layout.{setsIn, mem, view};
 ghost use Rattle.table.specs.Laid.{Laid};
-ghost use Rattle.script.specs.Puts.{Puts};
+ghost use Rattle.text.specs.Puts.{Puts};
 ghost use Rattle.listing.specs.Printed.{contents, body, listing};
 ghost use Rattle.listing.specs.Walk.{used};
 

@@ -1,9 +1,6 @@
 -- The laws, in the order in which they build on each other.
-pub mod Decimal
 pub mod Reading
 pub mod Spaced
 pub mod Meaning
 pub mod OneReading
 pub mod Telling
-pub mod Putting
-pub mod Lines

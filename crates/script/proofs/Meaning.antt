@@ -5,11 +5,12 @@ use mathlib.Core.List.{List, [], _∷_, _++_, head-eq-of-cons-eq, tail-eq-of-con
 use Prim.Native.Nat.{ℕ, _*_, _≤_, _<_}
 use native.Mathlib.Omega.{arith}
 use lib.ListN.{length, getD, drop, length-append, length-drop}
-use Rattle.script.specs.Text.{NEWLINE, decimal, spaced, AtLineEnd, Numbered, Written}
+use Rattle.text.specs.Text.{NEWLINE, decimal, spaced}
+use Rattle.script.specs.Written.{AtLineEnd, Numbered, Written}
 use Rattle.script.specs.Command.{Meaning, meaningOf, Means}
 use Rattle.script.specs.Command.Meaning.{malformed}
 use Rattle.script.specs.Command.Means.{written, not-written}
-use Rattle.script.proofs.Decimal.{decimal-length}
+use Rattle.text.proofs.Decimal.{decimal-length}
 use Rattle.script.proofs.Spaced.{numbered-one}
 
 -- the newline, or none, is at the line's end, and nothing follows it

@@ -13,7 +13,8 @@ use lib.Seq.{drop-cons, getD-drop}
 use borrow.Author.Tests.{le-leb, lt-leb, leb-true, leb-false}
 use Rattle.laws.specs.Choice.{_and_, when}
 use Rattle.laws.proofs.Choice.{when-cases, and-left, and-right}
-use Rattle.script.specs.Text.{SPACE, NEWLINE, digit, isDigit, decimal, AtLineEnd}
+use Rattle.text.specs.Text.{SPACE, NEWLINE, digit, isDigit, decimal}
+use Rattle.script.specs.Written.{AtLineEnd}
 use Rattle.script.specs.Reading.{LetterIs, LetterAt, NumberIs, NumberAt, LineEndIs, LineEndAt, digitAt, more, ended}
 use Rattle.script.specs.declared.cursor.Cursor.{Cursor}
 use Rattle.script.specs.declared.cursor.Letter.{Letter}
@@ -23,7 +24,7 @@ use Rattle.script.specs.declared.cursor.LineEnd.the-variants.{Is as is-e
 use Rattle.script.specs.declared.cursor.Digits.{Digits}
 use Rattle.script.specs.declared.cursor.Number.{Number}
 use Rattle.script.specs.declared.cursor.Number.the-variants.{Is, Nothing}
-use Rattle.script.proofs.Decimal.{decimal-1, decimal-more, decimal-first, too-long}
+use Rattle.text.proofs.Decimal.{decimal-1, decimal-more, decimal-first, too-long}
 
 -- ---- one byte
 

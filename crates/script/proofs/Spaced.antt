@@ -10,13 +10,14 @@ use native.Mathlib.Omega.{arith}
 use lib.ListN.{length, getD, take, drop, set, drop-of-length-le}
 use lib.Seq.{take-suc-set}
 use Rattle.laws.specs.Choice.{_and_}
-use Rattle.script.specs.Text.{SPACE, NEWLINE, isDigit, decimal, spaced, AtLineEnd, Numbered, Starts}
+use Rattle.text.specs.Text.{SPACE, NEWLINE, isDigit, decimal, spaced}
+use Rattle.script.specs.Written.{AtLineEnd, Numbered, Starts}
 use Rattle.script.specs.Reading.{NumberIs, NumberAt, LineEndIs, NumbersAt}
 use Rattle.script.specs.declared.cursor.Cursor.{Cursor}
 use Rattle.script.specs.declared.cursor.Number.{Number}
 use Rattle.script.specs.declared.cursor.Number.the-variants.{Nothing}
 use Rattle.script.specs.declared.numbers.Count.the-variants.{Are, Malformed}
-use Rattle.script.proofs.Decimal.{apart-one}
+use Rattle.text.proofs.Decimal.{apart-one}
 
 -- ---- the first number
 

@@ -15,7 +15,8 @@ use Rattle.laws.proofs.Loops.{all-at}
 use Rattle.script.specs.Command.{Meaning, asRule, alone, bytes, meaningOf, Means, told, symbolsOf, Tells, Reads}
 use Rattle.script.specs.Command.Meaning.{add, delete, parse, malformed}
 use Rattle.script.specs.Command.Means.{written, not-written}
-use Rattle.script.specs.Text.{spaced, Written}
+use Rattle.text.specs.Text.{spaced}
+use Rattle.script.specs.Written.{Written}
 use Rattle.script.specs.Reading.{LetterIs, LetterAt, NumbersAre, NumbersAt}
 use Rattle.script.specs.declared.cursor.Cursor.{Cursor}
 use Rattle.script.specs.declared.cursor.Letter.{Letter}

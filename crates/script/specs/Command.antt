@@ -7,7 +7,7 @@ use lib.Dec.{eqb, leb}
 use lib.ListN.{length, getD, take, drop}
 use Rattle.laws.specs.Choice.{when}
 use Rattle.laws.specs.Loops.{allBelow}
-use Rattle.script.specs.Text.{Written}
+use Rattle.script.specs.Written.{Written}
 use Rattle.script.specs.declared.command.Command.{Command}
 use Rattle.script.specs.declared.command.Command.the-variants.{New, Add, Delete, Parse, Collect, Restart, List as Listing, Malformed}
 

@@ -1,6 +1,4 @@
--- What a line of a script means and what the reader prints.
-pub mod Text
+-- What a line of a script means.
+pub mod Written
 pub mod Reading
 pub mod Command
-pub mod Puts
-pub mod Printed

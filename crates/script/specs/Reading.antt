@@ -5,7 +5,8 @@ use Prim.Native.Nat.{ℕ, _+_, _-_, _*_, _≤_}
 use lib.Dec.{leb}
 use lib.ListN.{length, getD, take, drop}
 use Rattle.laws.specs.Choice.{when}
-use Rattle.script.specs.Text.{isDigit, decimal, AtLineEnd, Numbered, Starts, Capital}
+use Rattle.text.specs.Text.{isDigit, decimal}
+use Rattle.script.specs.Written.{AtLineEnd, Numbered, Starts, Capital}
 use Rattle.script.specs.declared.cursor.Cursor.{Cursor}
 use Rattle.script.specs.declared.cursor.Letter.{Letter}
 use Rattle.script.specs.declared.cursor.Letter.the-variants.{Is as is-letter, Nothing as no-letter}

@@ -2,7 +2,7 @@
 use mathlib.Core.Path.{_∙_}
 use native.Mathlib.Omega.{arith}
 use borrow.Author.Needs.{needs}
-use Rattle.script.proofs.Putting.{puts-as}
+use Rattle.text.proofs.Putting.{puts-as}
 use Rattle.replies.proofs.Replied.{change-fits, parse-fits, collect-fits, listing-fits, alone-text, change-text, parse-text, collect-text, listing-text}
 use Rattle.replies.proofs.put.Statement.{statement}
 use Rattle.replies.proofs.put.Tie as tie

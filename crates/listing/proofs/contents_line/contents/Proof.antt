@@ -4,7 +4,7 @@ use mathlib.Core.Path.{ap, _∙_}
 use native.Mathlib.Omega.{arith}
 use borrow.Author.Needs.{needs}
 use Rattle.table.specs.Layout.{mem}
-use Rattle.script.proofs.Putting.{puts-then, puts-as}
+use Rattle.text.proofs.Putting.{puts-then, puts-as}
 use Rattle.listing.specs.Walk.{contentsOf}
 use Rattle.listing.proofs.Lengths.{entries-length}
 use Rattle.listing.proofs.Seen.{contents-seen}

@@ -3,7 +3,7 @@ use mathlib.Core.Path.{_≡_, ap}
 use Prim.Native.Nat.{_≤_, _-_, zero-le}
 use native.Mathlib.Omega.{arith}
 use borrow.Author.Needs.{needs}
-use Rattle.script.proofs.Putting.{puts-as}
+use Rattle.text.proofs.Putting.{puts-as}
 use Rattle.listing.specs.Walk.{listed, used, entryOf}
 use Rattle.listing.proofs.Lengths.{entries-length}
 use Rattle.listing.proofs.Walks.{Put, put-none, put-turn}

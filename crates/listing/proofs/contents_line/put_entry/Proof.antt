@@ -3,7 +3,7 @@ use mathlib.Core.Path.{refl}
 use native.Mathlib.Omega.{arith}
 use borrow.Author.Needs.{needs}
 use Rattle.laws.proofs.Choice.{when-yes, when-no}
-use Rattle.script.proofs.Putting.{puts-none, puts-then, puts-as}
+use Rattle.text.proofs.Putting.{puts-none, puts-then, puts-as}
 use Rattle.listing.specs.Walk.{entryOf}
 use Rattle.listing.proofs.Lengths.{three-digits}
 use Rattle.listing.proofs.Walks.{not-used, is-used, entry-put}

@@ -2,7 +2,7 @@
 use mathlib.Core.Path.{refl, ap}
 use borrow.Author.Tests.{eq-eqb, ne-eqb}
 use Rattle.laws.proofs.Choice.{when-yes, when-no}
-use Rattle.script.specs.Text.{digit}
+use Rattle.text.specs.Text.{digit}
 use Rattle.listing.proofs.set_body.accept_digit.Statement.{statement}
 use Rattle.listing.proofs.set_body.accept_digit.Tie as tie
 

@@ -4,7 +4,7 @@ use Prim.Native.Nat.{_+_, _*_}
 use native.Mathlib.Omega.{arith}
 use borrow.Author.Needs.{needs}
 use Rattle.table.specs.Layout.{mem}
-use Rattle.script.proofs.Putting.{puts-then, puts-as}
+use Rattle.text.proofs.Putting.{puts-then, puts-as}
 use Rattle.listing.specs.Walk.{bodyOf}
 use Rattle.listing.proofs.Lengths.{three-digits, items-length, rest-length}
 use Rattle.listing.proofs.Seen.{body-seen}

@@ -2,8 +2,8 @@
 use mathlib.Core.Path.{ap}
 use mathlib.Core.List.{[], _∷_}
 use borrow.Author.Needs.{needs}
-use Rattle.script.specs.Text.{SPACE}
-use Rattle.script.proofs.Putting.{puts-then, puts-as}
+use Rattle.text.specs.Text.{SPACE}
+use Rattle.text.proofs.Putting.{puts-then, puts-as}
 use Rattle.listing.specs.Printed.{acceptText}
 use Rattle.listing.proofs.set_body.put_accept.Statement.{statement}
 use Rattle.listing.proofs.set_body.put_accept.Tie as tie

@@ -2,7 +2,7 @@
 use Prim.Native.Nat.{_/_}
 use native.Mathlib.Omega.{arith}
 use borrow.Author.Needs.{needs}
-use Rattle.script.proofs.Putting.{puts-then}
+use Rattle.text.proofs.Putting.{puts-then}
 use Rattle.listing.specs.Walk.{itemOf}
 use Rattle.listing.proofs.Lengths.{three-digits}
 use Rattle.listing.proofs.set_body.put_item.Statement.{statement}

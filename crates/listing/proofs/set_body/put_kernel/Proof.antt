@@ -5,7 +5,7 @@ use native.Mathlib.Omega.{arith}
 use borrow.Author.Needs.{needs}
 use Rattle.kernels.specs.Kernel.{holds}
 use Rattle.kernels.proofs.NextBit.{next-at, next-nothing}
-use Rattle.script.proofs.Putting.{puts-then}
+use Rattle.text.proofs.Putting.{puts-then}
 use Rattle.listing.specs.Walk.{itemOf}
 use Rattle.listing.proofs.Lengths.{items-length}
 use Rattle.listing.proofs.Walks.{Put, put-none, walk-next, walk-end}

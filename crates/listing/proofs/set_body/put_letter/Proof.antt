@@ -1,6 +1,6 @@
 -- `put_letter` meets its contract. Assumes nothing.
 use borrow.Author.Needs.{needs}
-use Rattle.script.proofs.Putting.{puts-then}
+use Rattle.text.proofs.Putting.{puts-then}
 use Rattle.listing.proofs.set_body.put_letter.Statement.{statement}
 use Rattle.listing.proofs.set_body.put_letter.Tie as tie
 

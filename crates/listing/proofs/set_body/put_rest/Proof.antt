@@ -6,7 +6,7 @@ use native.Mathlib.Omega.{arith}
 use lib.ListN.{getD}
 use borrow.Author.Needs.{needs}
 use Rattle.laws.proofs.Choice.{when-yes, when-no}
-use Rattle.script.proofs.Putting.{puts-none, puts-then, puts-as}
+use Rattle.text.proofs.Putting.{puts-none, puts-then, puts-as}
 use Rattle.listing.proofs.Lengths.{transitions-length, reductions-length}
 use Rattle.listing.proofs.Walks.{unexpanded-mark, expanded-mark, expanded-put}
 use Rattle.listing.proofs.set_body.put_rest.Statement.{statement}

@@ -5,8 +5,8 @@ use Prim.Native.Nat.{_+_, _*_}
 use native.Mathlib.Omega.{arith}
 use borrow.Author.Needs.{needs}
 use Rattle.laws.proofs.Choice.{when-yes, when-no}
-use Rattle.script.specs.Text.{SPACE, decimal}
-use Rattle.script.proofs.Putting.{puts-none, puts-then, puts-as}
+use Rattle.text.specs.Text.{SPACE, decimal}
+use Rattle.text.proofs.Putting.{puts-none, puts-then, puts-as}
 use Rattle.listing.specs.Walk.{transitionOf}
 use Rattle.listing.proofs.Lengths.{three-digits}
 use Rattle.listing.proofs.Walks.{no-target, a-target}

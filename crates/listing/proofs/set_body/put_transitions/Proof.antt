@@ -4,7 +4,7 @@ use Prim.Native.Nat.{ℕ, _+_, _*_, _≤_, _<_, _-_}
 use native.Mathlib.Omega.{arith}
 use lib.ListN.{getD}
 use borrow.Author.Needs.{needs}
-use Rattle.script.proofs.Putting.{puts-then, puts-as}
+use Rattle.text.proofs.Putting.{puts-then, puts-as}
 use Rattle.listing.specs.Walk.{listed, leads, transitionOf}
 use Rattle.listing.proofs.Lengths.{transitions-length}
 use Rattle.listing.proofs.Walks.{Put, put-none, put-turn}

@@ -6,7 +6,7 @@ use native.Mathlib.Omega.{arith}
 use lib.ListN.{take, length}
 use borrow.Author.Needs.{needs}
 use Rattle.table.specs.Layout.{mem}
-use Rattle.script.specs.Text.{NEWLINE}
+use Rattle.text.specs.Text.{NEWLINE}
 use Rattle.bytes.specs.Bytes.{indexOf, slice}
 use Rattle.desk.specs.Obeys.{state}
 use Rattle.reader.specs.Lines.{RanText}

@@ -4,7 +4,7 @@ use Prim.Native.Nat.{_+_, _-_}
 use native.Mathlib.Omega.{arith}
 use borrow.Author.Needs.{needs}
 use Rattle.laws.proofs.Choice.{when-yes, when-no}
-use Rattle.script.proofs.Putting.{puts-none, puts-as}
+use Rattle.text.proofs.Putting.{puts-none, puts-as}
 use Rattle.listing.proofs.Walks.{not-used, is-used}
 use Rattle.replies.proofs.Parts.{part-room, puts-part}
 use Rattle.replies.proofs.listed.put_body.Statement.{statement}

@@ -4,7 +4,7 @@ use Prim.Native.Nat.{_+_, _-_, _*_, _≤_, zero-le}
 use native.Mathlib.Omega.{arith}
 use borrow.Author.Needs.{needs}
 use Rattle.table.specs.Layout.{setsIn, mem, view}
-use Rattle.script.proofs.Putting.{puts-then, puts-as}
+use Rattle.text.proofs.Putting.{puts-then, puts-as}
 use Rattle.listing.specs.Printed.{body}
 use Rattle.listing.specs.Walk.{listed, used}
 use Rattle.listing.proofs.Seen.{listing-seen}

@@ -1,0 +1,4 @@
+-- The laws, in the order in which they build on each other.
+pub mod Decimal
+pub mod Putting
+pub mod Digits
