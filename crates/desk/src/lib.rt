@@ -7,8 +7,8 @@
 //
 // The desk starts without a table: all numbers zero, which is not in form, so its calls answer 11 until a good N. The sizes of
 // the pools are here, for "at most 128, 128 and 1,024"; an N within that takes the part that it asks for. The output buffer
-// needs `replies::ROOM` for the longest text, the listing of a full table: a megabyte, so that a line's text always is in one piece and
-// the contract can say which it is.
+// needs `replies::ROOM` for the longest text, the listing of a full table: a megabyte, so that a line's text always is in one
+// piece and the contract can say which it is.
 //
 // A line costs its call; P, G and R also a look at one byte of each set, and L what it prints.
 //
