@@ -29,9 +29,9 @@ use Rattle.table.specs.Becomes.{Promised}
 use Rattle.form.proofs.Formed.{formed-dec}
 use Rattle.table.proofs.Becoming.{rules-seen}
 use Rattle.generator.proofs.Promises.{collected-rules}
-use Rattle.recogniser.specs.Parse.{lentParse, Parses}
 use Rattle.links.specs.Records.{numbersFor}
 use Rattle.positions.specs.declared.Verdict.{Verdict}
+use Rattle.recogniser.specs.Parse.{lentParse, Parses}
 
 -- ---- rule numbers
 

@@ -1,5 +1,5 @@
--- `positions::settle::settle` meets its contract. The invariant: the steps from here lead to the outcome of the steps at first (`Settling`). Each turn
--- but the last leaves one more expanded set of a node here. Assumes nothing.
+-- `positions::settle::settle` meets its contract. The invariant: the steps from here lead to the outcome of the steps at first
+-- (`Settling`). Each turn but the last leaves one more expanded set of a node here. Assumes nothing.
 use Rattle.positions.proofs.Settling.{waiting-at, Settling, settling-start, settling-over, settling-ready, settling-expandable, settling-no-sets, settling-next, settling-less}
 use mathlib.Core.Path.{_≡_, refl}
 use native.Mathlib.Omega.{arith}
