@@ -4,6 +4,7 @@ use crate::lent::{self, RULE_CURRENT, RULE_WITHDRAWN};
 
 /// A rule that is current or withdrawn.
 #[derive(Clone, Debug, PartialEq, Eq, Hash)]
+#[non_exhaustive]
 pub struct Rule {
     /// Its number, which Add answered.
     pub number: usize,

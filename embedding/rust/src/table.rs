@@ -15,6 +15,7 @@ pub struct Table {
 
 /// What a parse found.
 #[derive(Clone, Copy, Debug, PartialEq, Eq, Hash)]
+#[non_exhaustive]
 pub struct Verdict {
     /// Whether START derives the line.
     pub accepted: bool,
