@@ -5,3 +5,4 @@ pub mod InUse
 pub mod Made
 pub mod Obeyed
 pub mod OneOutcome
+pub mod Scripts
