@@ -6,3 +6,4 @@ pub mod Made
 pub mod Obeyed
 pub mod OneOutcome
 pub mod Scripts
+pub mod NoTable
