@@ -12,10 +12,12 @@ use Rattle.desk.specs.Obeys.{State}
 use Rattle.desk.specs.Script.{Unbroken, Ran, Last}
 use Rattle.desk.specs.Script.Ran.{rest, line}
 use Rattle.desk.proofs.Scripts.{ran-then, unbroken-nil}
+use Rattle.reader.specs.declared.input.Got.{Got}
+use Rattle.reader.specs.declared.input.Got.the-variants.{Bytes, End, Failed}
 use Rattle.reader.specs.declared.pieces.Standing.{Standing}
 use Rattle.reader.specs.declared.pieces.Standing.the-variants.{More, Whole, Unread, Unwritten}
 use Rattle.reader.specs.Lines.{RanLines, KeptRest}
-use Rattle.reader.specs.Pieces.{Behind, Fed, Ended, Unless, Turned, RanPiece, RanEnd, RanTurn, RanWhole, RanPart, NO_END, Ends, isMore}
+use Rattle.reader.specs.Pieces.{Brought, Fed, RanPiece, RanEnd, RanNothing, Turned, RanWhole, RanPart, NO_END, Ends, isMore}
 use Rattle.reader.proofs.Rest.{kept-is}
 use Rattle.reader.proofs.Cut.{behind-cut, last-cut}
 
@@ -31,31 +33,32 @@ pub record Begun (d e : State) (held : List ℕ) : Type 0 where
 pub begin : (d : State) → Begun d d []
 begin d = record { part = record { text = []; printed = []; left = []; ran = rest unbroken-nil }; cut = refl }
 
-pub feed : {d e f : State} {held now-held : List ℕ} (b : Begun d e held) (p : Fed held e f now-held)
-    → (c : Begun d f now-held) × (length (c .part .text) ≡ length (b .part .text) + length (p .piece))
-feed {d} {e} {f} b p =
-    let so-far = b .part in
-    let next = subst (λ h. Ran e (h ++ p .piece) f (p .printed) (p .left)) (b .cut) (p .ran) in
-    let (whole, ran, same) = behind-cut (so-far .left) (p .piece) (left-unbroken (so-far .ran)) next in
-    let both = ran-then (p .piece) (so-far .ran) ran in (
-      record { part = record { text = so-far .text ++ p .piece; printed = so-far .printed ++ p .printed; left = whole; ran = both }; cut = p .cut ∙ same },
-      length-append (so-far .text) (p .piece),
-    )
+module _ {d e f : State} {held : List ℕ} (b : Begun d e held) where
+  pub feed : {piece now-held : List ℕ} → Fed held piece e f now-held
+      → (c : Begun d f now-held) × (length (c .part .text) ≡ length (b .part .text) + length piece)
+  feed {piece} p =
+      let so-far = b .part in
+      let next = subst (λ h. Ran e (h ++ piece) f (p .printed) (p .left)) (b .cut) (p .ran) in
+      let (whole, ran, same) = behind-cut (so-far .left) piece (left-unbroken (so-far .ran)) next in
+      let both = ran-then piece (so-far .ran) ran in (
+        record { part = record { text = so-far .text ++ piece; printed = so-far .printed ++ p .printed; left = whole; ran = both }; cut = p .cut ∙ same },
+        length-append (so-far .text) piece,
+      )
 
-pub finish : {d e f : State} {held : List ℕ} → Begun d e held → Ended held e f → RanWhole d f
-finish {d} {e} {f} b p = record {
-  text = b .part .text;
-  printed = b .part .printed ++ p .printed;
-  script = record {
-    between = e;
-    left = b .part .left;
-    first = b .part .printed;
-    then = p .printed;
-    ran = b .part .ran;
-    last = last-cut (b .part .left) (subst (λ h. Last e h f (p .printed)) (b .cut) (p .last));
-    in-order = refl;
-  };
-}
+  pub finish : (printed : List ℕ) → Last e held f printed → RanWhole d f
+  finish printed p = record {
+    text = b .part .text;
+    printed = b .part .printed ++ printed;
+    script = record {
+      between = e;
+      left = b .part .left;
+      first = b .part .printed;
+      then = printed;
+      ran = b .part .ran;
+      last = last-cut (b .part .left) (subst (λ h. Last e h f printed) (b .cut) p);
+      in-order = refl;
+    };
+  }
 
 -- ---- the loop
 
@@ -66,12 +69,33 @@ SoFar turns Whole d e held = Ends Whole d e
 SoFar turns Unread d e held = Ends Unread d e
 SoFar turns Unwritten d e held = Ends Unwritten d e
 
-pub turn : {turns : ℕ} {d e : State} {held : List ℕ} (r : Standing) (now : ℕ) (f : State) (now-held : List ℕ) → turns ≡ now + 1 → SoFar turns More d e held
-    → Turned r held e f now-held → SoFar now r d f now-held
-turn More now f now-held t (b, n) p = let (c, size) = feed b p in (c, omega (arith, p .some))
-turn Whole now f now-held t (b, n) p = finish b p
-turn {d = d} Unread now f now-held t (b, n) p = subst (λ s. RanPart d s) (sym p) (b .part)
-turn Unwritten now f now-held t (b, n) p = ⊎-elim (λ q. inr (feed b q .0 .part)) (λ q. inl (finish b q)) p
+-- a turn takes one of them, whatever the reading brought behind the bytes that were held
+pub turn : {turns : ℕ} {d e : State} (before text : List ℕ) (held : ℕ) (got : Got) (now : ℕ) (f : State) (after : List ℕ) (now-held : ℕ) (r : Standing)
+    → turns ≡ now + 1 → take held text ≡ take held before → Brought text held got → SoFar turns More d e (take held before)
+    → Turned got text held e f after now-held r → SoFar now r d f (take now-held after)
+turn {turns} {d} {e} before text held got now f after now-held r t kept brought (b, n) p = by got brought p
+  where
+    stands : Standing → Type 0
+    stands s = SoFar now s d f (take now-held after)
+
+    begun : Begun d e (take held text)
+    begun = record { part = b .part; cut = kept ∙ b .cut }
+
+    by : (got : Got) → Brought text held got → Turned got text held e f after now-held r → stands r
+    by (Bytes k) (some, room) p =
+        let (c, size) = feed begun (p .fed) in
+        let piece : length (take k (drop held text)) ≡ k = omega (arith, length-take k (drop held text), length-drop held text) in
+        ⊎-elim (λ s. subst stands (sym s) (c, omega arith)) (λ s. subst stands (sym s) (inr (c .part))) (p .standing)
+    by End _ p =
+        let whole = finish begun (p .printed) (p .last) in
+        ⊎-elim (λ s. subst stands (sym s) whole) (λ s. subst stands (sym s) (inl whole)) (p .standing)
+    by Failed _ p = subst stands (sym (p .standing)) (subst (λ s. RanPart d s) (sym (p .same-state)) (b .part))
+
+pub few-held : (got : Got) (text : List ℕ) (held : ℕ) (d e : State) (after : List ℕ) (now-held : ℕ) (r : Standing) → held ≤ 1283
+    → Turned got text held d e after now-held r → now-held ≤ 1283
+few-held (Bytes n) text held d e after now-held r h p = p .few
+few-held End text held d e after now-held r h p = omega (arith, p .none-held)
+few-held Failed text held d e after now-held r h p = omega (arith, p .same-held)
 
 -- a script that goes on
 pub goes-on : (r : Standing) (turns : ℕ) (d e : State) (held : List ℕ) → isMore r ≡ true → SoFar turns r d e held → SoFar turns More d e held
@@ -88,36 +112,29 @@ ends Whole turns d e held o p = p
 ends Unread turns d e held o p = p
 ends Unwritten turns d e held o p = p
 
--- ---- a turn, by what the reading brought
+-- ---- a piece
 
-pub fed : (held n : ℕ) {text after before out : List ℕ} {at r used past : ℕ} {d e : State} → Behind text held n → RanLines text (held + n) d e at before used out past
-    → KeptRest text at (held + n) after r → Fed (take held text) d e (take r after)
-fed held n {text} {at = at} {d = d} {e} b l k =
+pub fed : (held n : ℕ) {text after before out : List ℕ} {at r used past : ℕ} {d e : State} → held + n ≤ length text
+    → RanLines text (held + n) d e at before used out past → KeptRest text at (held + n) after r
+    → Fed (take held text) (take n (drop held text)) d e (take r after)
+fed held n {text} {at = at} {d = d} {e} fits l k =
     let left = drop at (take (held + n) text) in
     let printed = l .ran .printed in
     record {
-      piece = take n (drop held text);
-      some = omega (arith, length-take n (drop held text), length-drop held text, b);
       printed = printed;
       left = left;
       ran = subst (λ t. Ran d t e printed left) (take-add held n text) (l .ran .ran);
-      cut = kept-is k (l .within) (b .1);
+      cut = kept-is k (l .within) fits;
     }
 
--- the bytes held are those that were held before the reading
-pub piece-turn : {before text after : List ℕ} {held n : ℕ} {d e : State} {r : Standing} → take held text ≡ take held before
-    → RanPiece text held d e after n r → RanTurn before held d e after n r
-piece-turn {before} {after = after} {held} {n} {d} {e} kept p =
-    let q = subst (λ h. Fed h d e (take n after)) kept (p .fed) in
-    let stands : Standing → Type 0 = λ r. Turned r (take held before) d e (take n after) in
-    record { few = p .few; turned = ⊎-elim (λ s. subst stands (sym s) q) (λ s. subst stands (sym s) (inl q)) (p .standing) }
+-- ---- what a turn does, once it is known what the reading brought
 
-pub end-turn : {before text after : List ℕ} {held n : ℕ} {d e : State} {r : Standing} → take held text ≡ take held before
-    → RanEnd text held d e n r → RanTurn before held d e after n r
-end-turn {before} {after = after} {held} {n} {d} {e} kept p =
-    let q = subst (λ h. Ended h d e) kept (p .ended) in
-    let stands : Standing → Type 0 = λ r. Turned r (take held before) d e (take n after) in
-    record {
-      few = omega (arith, p .none-held);
-      turned = ⊎-elim (λ s. subst stands (sym s) q) (λ s. subst stands (sym s) (inr q)) (p .standing);
-    }
+module _ {got : Got} {held : ℕ} {d e : State} {now-held : ℕ} {r : Standing} where
+  pub with-bytes : {n : ℕ} {text after : List ℕ} → got ≡ Bytes n → RanPiece text held n d e after now-held r → Turned got text held d e after now-held r
+  with-bytes {text = text} {after} g p = subst (λ g. Turned g text held d e after now-held r) (sym g) p
+
+  pub with-end : {text : List ℕ} (after : List ℕ) → got ≡ End → RanEnd text held d e now-held r → Turned got text held d e after now-held r
+  with-end {text} after g p = subst (λ g. Turned g text held d e after now-held r) (sym g) p
+
+  pub with-failure : (text after : List ℕ) → got ≡ Failed → RanNothing held d e now-held r → Turned got text held d e after now-held r
+  with-failure text after g p = subst (λ g. Turned g text held d e after now-held r) (sym g) p

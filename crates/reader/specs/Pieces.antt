@@ -4,7 +4,7 @@ use mathlib.Core.Path.{_≡_}
 use mathlib.Core.Logic.{_⊎_}
 use mathlib.Core.List.{List, _++_}
 use Prim.Native.Nat.{ℕ, _+_, _≤_, _<_}
-use lib.ListN.{length, take}
+use lib.ListN.{length, take, drop}
 use Rattle.table.specs.Layout.{Mem}
 use Rattle.desk.specs.Obeys.{State, state}
 use Rattle.desk.specs.Script.{Ran, Last, Script, blank}
@@ -56,45 +56,41 @@ isMore Whole = false
 isMore Unread = false
 isMore Unwritten = false
 
--- a piece came behind the bytes that were held; its whole lines are run, and of what stands after them so much is held as a line's
--- meaning needs
-pub record Fed (held : List ℕ) (d e : State) (now-held : List ℕ) : Type 0 where
-  pub piece : List ℕ
-  pub some : 0 < length piece
+-- a script stands so, unless what it printed could not be written
+abbrev pub Unless : Standing → Standing → Type 0
+Unless s r = (r ≡ s) ⊎ (r ≡ Unwritten)
+
+-- a piece came behind the bytes that were held: the lines that are whole then are run, and of what stands after them so much is held as a
+-- line's meaning needs
+pub record Fed (held piece : List ℕ) (d e : State) (now-held : List ℕ) : Type 0 where
   pub printed : List ℕ
   pub left : List ℕ
   pub ran : Ran d (held ++ piece) e printed left
   pub cut : now-held ≡ take 1283 left
 
--- nothing more came: what is held is run as the last line
-pub record Ended (held : List ℕ) (d e : State) : Type 0 where
-  pub printed : List ℕ
-  pub last : Last d held e printed
-
--- what a turn does: after a failed reading nothing that is held is run
-abbrev pub Turned : Standing → (held : List ℕ) (d e : State) (now-held : List ℕ) → Type 0
-Turned More held d e now-held = Fed held d e now-held
-Turned Whole held d e now-held = Ended held d e
-Turned Unread held d e now-held = e ≡ d
-Turned Unwritten held d e now-held = Fed held d e now-held ⊎ Ended held d e
-
--- a script stands so, unless what it printed could not be written
-abbrev pub Unless : Standing → Standing → Type 0
-Unless s r = (r ≡ s) ⊎ (r ≡ Unwritten)
-
-pub record RanPiece (text : List ℕ) (held : ℕ) (d e : State) (after : List ℕ) (now-held : ℕ) (r : Standing) : Type 0 where
+pub record RanPiece (text : List ℕ) (held n : ℕ) (d e : State) (after : List ℕ) (now-held : ℕ) (r : Standing) : Type 0 where
   pub few : now-held ≤ 1283
-  pub fed : Fed (take held text) d e (take now-held after)
+  pub fed : Fed (take held text) (take n (drop held text)) d e (take now-held after)
   pub standing : Unless More r
 
+-- nothing more came: what is held is run as the last line
 pub record RanEnd (text : List ℕ) (held : ℕ) (d e : State) (now-held : ℕ) (r : Standing) : Type 0 where
   pub none-held : now-held ≡ 0
-  pub ended : Ended (take held text) d e
+  pub printed : List ℕ
+  pub last : Last d (take held text) e printed
   pub standing : Unless Whole r
 
-pub record RanTurn (text : List ℕ) (held : ℕ) (d e : State) (after : List ℕ) (now-held : ℕ) (r : Standing) : Type 0 where
-  pub few : now-held ≤ 1283
-  pub turned : Turned r (take held text) d e (take now-held after)
+-- the reading failed: nothing that is held is run
+pub record RanNothing (held : ℕ) (d e : State) (now-held : ℕ) (r : Standing) : Type 0 where
+  pub same-held : now-held ≡ held
+  pub same-state : e ≡ d
+  pub standing : r ≡ Unread
+
+-- what a turn does, by what the reading brought
+abbrev pub Turned : Got → (text : List ℕ) (held : ℕ) (d e : State) (after : List ℕ) (now-held : ℕ) → Standing → Type 0
+Turned (Bytes n) text held d e after now-held r = RanPiece text held n d e after now-held r
+Turned End text held d e after now-held r = RanEnd text held d e now-held r
+Turned Failed text held d e after now-held r = RanNothing held d e now-held r
 
 -- ---- the whole of it: the script is the bytes that were read, one piece after the other, however they came
 

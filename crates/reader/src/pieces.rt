@@ -15,7 +15,7 @@ ghost use Prim.Native.Nat.{_≤_, _<_};
 ghost use lib.ListN.{length};
 ghost use Rattle.table.specs.Layout.{mem};
 ghost use Rattle.desk.specs.Obeys.{state};
-ghost use Rattle.reader.specs.Pieces.{Behind, Unless, RanPiece, RanEnd, RanTurn, RanScript, RanFromBlank, isMore};
+ghost use Rattle.reader.specs.Pieces.{Behind, Unless, Brought, RanPiece, RanEnd, Turned, RanScript, RanFromBlank, isMore};
 
 // How a script stands: there may be more of it; it was run to its end and all that it prints is written; the reading failed; the
 // writing failed.
@@ -105,7 +105,8 @@ fn run_script(
     while turns > 0 && turn.goes_on() {
         let held = turn.held;
         let pool = turn.pool;
-        turn = run_turn(fd, name, text, held, rules, cells, words, links, out, pool);
+        let got = fill(fd, name, text, held);
+        turn = run_turn(got, text, held, rules, cells, words, links, out, pool);
         turns -= 1;
     }
     turn.standing
@@ -120,10 +121,9 @@ impl Turn {
     }
 }
 
-// Reads on, and runs what is whole then.
+// Runs what is whole, now that this was read behind the bytes that are held.
 fn run_turn(
-    fd: i32,
-    name: &[u8],
+    got: Got,
     text: &mut [u8],
     held: usize,
     rules: &mut [u8],
@@ -133,13 +133,12 @@ fn run_turn(
     out: &mut [u8],
     pool: usize,
 ) -> Turn
-    requires { ⌜ (held ≤ 1283) × (1283 < length (now text)) × (length (now cells) ≤ 16384) × (1056768 ≤ length (now out)) ⌝ }
-    ensures { λ r. ⌜ RanTurn (now (text .entry)) held
+    requires { ⌜ Brought (now text) held got × (held < length (now text)) × (length (now cells) ≤ 16384) × (1056768 ≤ length (now out)) ⌝ }
+    ensures { λ r. ⌜ Turned got (now (text .entry)) held
         (state (mem (now (rules .entry)) (now (cells .entry)) (now (words .entry))) (now (links .entry)) pool)
         (state (mem (now (rules .exit)) (now (cells .exit)) (now (words .exit))) (now (links .exit)) (r .pool))
         (now (text .exit)) (r .held) (r .standing) ⌝ }
 {
-    let got = fill(fd, name, text, held);
     match got {
         Got::Bytes(n) => run_piece(text, held, n, rules, cells, words, links, out, pool),
         Got::End => run_end(text, held, rules, cells, words, links, out, pool),
@@ -164,7 +163,7 @@ fn run_piece(
     pool: usize,
 ) -> Turn
     requires { ⌜ Behind (now text) held n × (length (now cells) ≤ 16384) × (1056768 ≤ length (now out)) ⌝ }
-    ensures { λ r. ⌜ RanPiece (now (text .entry)) held
+    ensures { λ r. ⌜ RanPiece (now (text .entry)) held n
         (state (mem (now (rules .entry)) (now (cells .entry)) (now (words .entry))) (now (links .entry)) pool)
         (state (mem (now (rules .exit)) (now (cells .exit)) (now (words .exit))) (now (links .exit)) (r .pool))
         (now (text .exit)) (r .held) (r .standing) ⌝ }

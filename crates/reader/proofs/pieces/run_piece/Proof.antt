@@ -50,7 +50,7 @@ returns c =
     let keep-rest = the tie.After-keep-rest (search) .keep-rest in
     record {
       few = keep-rest .ensures .few;
-      fed = fed (start .args .held) (start .args .n) (start .pre .0) (run-lines .ensures) (keep-rest .ensures);
+      fed = fed (start .args .held) (start .args .n) (start .pre .0 .1) (run-lines .ensures) (keep-rest .ensures);
       standing = if-written .ensures;
     }
 

@@ -4,11 +4,11 @@ use mathlib.Core.Path.{_≡_, refl, sym, _∙_}
 use mathlib.Core.Logic.{inl, inr}
 use native.Mathlib.Omega.{arith}
 use lib.ListN.{length, take}
-use borrow.Author.Needs.{needs}
 use Rattle.laws.proofs.Places.{the}
 use Rattle.table.specs.Layout.{mem}
 use Rattle.desk.specs.Obeys.{state}
-use Rattle.reader.proofs.Turns.{SoFar, begin, turn, goes-on, ends}
+use Rattle.reader.proofs.Turns.{SoFar, begin, turn, few-held, goes-on, ends}
+use borrow.Author.Needs.{needs}
 use Rattle.reader.proofs.pieces.run_script.Statement.{statement}
 use Rattle.reader.proofs.pieces.run_script.Tie as tie
 
@@ -34,12 +34,19 @@ loop-holds c = ((refl, refl, refl, refl, refl, refl), omega arith, (begin _, ome
 goes-on-requires : tie.Need-goes-on-requires Inv-loop μ-loop
 goes-on-requires c κs = search needs
 
+fill-requires : tie.Need-fill-requires Inv-loop μ-loop
+fill-requires c κs =
+    let start : tie.Start Inv-loop μ-loop = search in
+    let loop = the (tie.At-loop Inv-loop μ-loop) (search) .loop in
+    omega (arith, start .pre, loop .inv .0, loop .inv .1)
+
 run-turn-requires : tie.Need-run-turn-requires Inv-loop μ-loop
 run-turn-requires c κs =
     let start : tie.Start Inv-loop μ-loop = search in
-    let loop = the (tie.At-loop Inv-loop μ-loop) (search) .loop in (
-      loop .inv .1,
-      omega (arith, start .pre, loop .inv .0),
+    let loop = the (tie.At-loop Inv-loop μ-loop) (search) .loop in
+    let fill = the (tie.After-fill Inv-loop μ-loop) (search) .fill in (
+      fill .ensures .brought,
+      omega (arith, start .pre, loop .inv .0, loop .inv .1, fill .kept .1 .1 .0),
       omega (arith, start .pre, loop .inv .0),
       omega (arith, start .pre, loop .inv .0),
     )
@@ -56,20 +63,22 @@ loop-again c =
     let loop-test = the (tie.In-loop Inv-loop μ-loop) (search) .loop-test in
     let goes-on′ = the (tie.After-goes-on Inv-loop μ-loop) (search) .goes-on in
     let if1 = the (tie.Then1 Inv-loop μ-loop) (search) .if1 in
+    let fill = the (tie.After-fill Inv-loop μ-loop) (search) .fill in
     let run-turn = the (tie.After-run-turn Inv-loop μ-loop) (search) .run-turn in
     let same = loop .inv .0 in
     let kept = run-turn .kept in
     let more = goes-on (loop .turn .standing) (loop .turns) _ _ _ (sym (goes-on′ .ensures) ∙ if1 .taken) (loop .inv .2) in (
       (
-        kept .1 .1 .0 ∙ same .0,
-        kept .1 .1 .1 .1 .0 ∙ same .1,
-        kept .1 .1 .1 .1 .1 .0 ∙ same .2,
-        kept .1 .1 .1 .1 .1 .1 .0 ∙ same .3,
-        kept .1 .1 .1 .1 .1 .1 .1 .0 ∙ same .4,
-        kept .1 .1 .1 .1 .1 .1 .1 .1 .0 ∙ same .5,
+        kept .1 .0 ∙ fill .kept .1 .1 .0 ∙ same .0,
+        kept .1 .1 .1 .0 ∙ same .1,
+        kept .1 .1 .1 .1 .0 ∙ same .2,
+        kept .1 .1 .1 .1 .1 .0 ∙ same .3,
+        kept .1 .1 .1 .1 .1 .1 .0 ∙ same .4,
+        kept .1 .1 .1 .1 .1 .1 .1 .0 ∙ same .5,
       ),
-      run-turn .ensures .few,
-      turn (run-turn .result .standing) _ _ _ (omega (arith, loop-test .taken)) more (run-turn .ensures .turned),
+      few-held (fill .result) _ _ _ _ _ _ _ (loop .inv .1) (run-turn .ensures),
+      turn (loop .text) _ _ (fill .result) _ _ _ _ _ (omega (arith, loop-test .taken)) (fill .ensures .kept)
+          (fill .ensures .brought) more (run-turn .ensures),
     )
 
 same-length : tie.Need-same-length Inv-loop μ-loop
@@ -143,6 +152,7 @@ run-script-spec =
     μ-loop
     loop-holds
     goes-on-requires
+    fill-requires
     run-turn-requires
     sub-turns
     loop-less

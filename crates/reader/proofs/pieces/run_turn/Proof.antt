@@ -3,13 +3,10 @@ use mathlib.Core.Path.{refl, subst}
 use native.Mathlib.Omega.{arith}
 use Rattle.laws.proofs.Places.{the}
 use Rattle.reader.specs.Pieces.{Brought}
-use Rattle.reader.proofs.Turns.{piece-turn, end-turn}
+use Rattle.reader.proofs.Turns.{with-bytes, with-end, with-failure}
 use borrow.Author.Needs.{needs}
 use Rattle.reader.proofs.pieces.run_turn.Statement.{statement}
 use Rattle.reader.proofs.pieces.run_turn.Tie as tie
-
-fill-requires : tie.Need-fill-requires
-fill-requires c κs = search needs
 
 enum-known-got : tie.Need-enum-known-got
 enum-known-got c = search needs
@@ -17,9 +14,11 @@ enum-known-got c = search needs
 run-piece-requires : tie.Need-run-piece-requires
 run-piece-requires c κs =
     let start : tie.Start = search in
-    let fill = the tie.After-fill (search) .fill in
-    let got = the tie.After-got (search) .got in
-    (subst (Brought _ (start .args .held)) (got .given .1) (fill .ensures .brought), start .pre .2, start .pre .3)
+    let got = the tie.After-got (search) .got in (
+      subst (Brought (start .args .text .now) (start .args .held)) (got .given .1) (start .pre .0),
+      start .pre .2,
+      start .pre .3,
+    )
 
 enum-told : tie.Need-enum-told
 enum-told c = search needs
@@ -50,9 +49,9 @@ same-length-6 c = search needs
 
 returns : tie.Need-returns
 returns c =
-    let fill = the tie.After-fill (search) .fill in
+    let got = the tie.After-got (search) .got in
     let run-piece = the tie.After-run-piece (search) .run-piece in
-    piece-turn (fill .ensures .kept) (run-piece .ensures)
+    with-bytes (got .given .1) (run-piece .ensures)
 
 same-length-7 : tie.Need-same-length-7
 same-length-7 c = search needs
@@ -74,23 +73,17 @@ same-length-12 c = search needs
 
 returns-2 : tie.Need-returns-2
 returns-2 c =
-    let fill = the tie.After-fill (search) .fill in
+    let enum-told = the tie.After-enum-told (search) .enum-told in
     let run-end = the tie.After-run-end (search) .run-end in
-    end-turn (fill .ensures .kept) (run-end .ensures)
-
-same-length-13 : tie.Need-same-length-13
-same-length-13 c = search needs
+    with-end _ (enum-told .given .1) (run-end .ensures)
 
 returns-3 : tie.Need-returns-3
-returns-3 c =
-    let start : tie.Start = search in
-    record { few = start .pre .0; turned = refl }
+returns-3 c = with-failure _ _ (c .enum-told2 .given .1) (record { same-held = refl; same-state = refl; standing = refl })
 
 pub run-turn-spec : {M : Type 1} → statement M
 run-turn-spec =
     tie.close
     (tie.spec
-    fill-requires
     enum-known-got
     run-piece-requires
     enum-told
@@ -110,5 +103,4 @@ run-turn-spec =
     same-length-11
     same-length-12
     returns-2
-    same-length-13
     returns-3)
