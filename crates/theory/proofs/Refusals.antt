@@ -1,7 +1,6 @@
 -- A refusal of any call on any table: below NO-SETS it leaves the table as it was, and its number is 0. Assumes nothing.
 use mathlib.Core.Path.{_≡_, refl}
 use mathlib.Core.Logic.{⊎-elim}
-use mathlib.Core.List.{List}
 use Prim.Native.Nat.{ℕ, _≤_}
 use native.Mathlib.Omega.{arith}
 use lib.Dec.{eqb, ltb}
@@ -46,7 +45,9 @@ refusing (add x w) t =
     (λ e. leaving _)
 refusing (delete x w) t =
     when-cases (Refusing t) (inForm t)
-    (λ e. when-cases (Refusing t) (eqb (ruleAnswer x w) DONE) (λ e. when-cases (Refusing t) (isThere t x w) (λ e. doing _) (λ e. leaving _)) (λ e. leaving _))
+    (λ e. when-cases (Refusing t) (eqb (ruleAnswer x w) DONE)
+    (λ e. when-cases (Refusing t) (isThere t x w) (λ e. doing _) (λ e. leaving _))
+    (λ e. leaving _))
     (λ e. leaving _)
 refusing collect t = when-cases (Refusing t) (inForm t) (λ e. doing 0) (λ e. leaving _)
 refusing restart t = when-cases (Refusing t) (inForm t) (λ e. doing 0) (λ e. leaving _)

@@ -62,7 +62,8 @@ module _ (t : Table) (x : ℕ) (w : List ℕ) where
   deleting : Deleting t x w (calls.deleteInForm t x w .answer)
   deleting =
       when-cases Is (eqb (ruleAnswer x w) DONE)
-      (λ a. when-cases Is (isThere t x w) (λ b. deleted (passes b)) (λ b. not-there (fails b))) (λ a. not-deleted (λ e. fails a (eqb-iff _ _ .1 e)) refl)
+      (λ a. when-cases Is (isThere t x w) (λ b. deleted (passes b)) (λ b. not-there (fails b)))
+      (λ a. not-deleted (λ e. fails a (eqb-iff _ _ .1 e)) refl)
     where
       Is : Outcome → Type 0
       Is o = Deleting t x w (o .answer)
