@@ -2,7 +2,7 @@
 -- that the lent numbers m hold, R the rules that the accepted additions and withdrawals have left. Assumes nothing.
 use mathlib.Core.Bool.{Bool, false}
 use mathlib.Core.Path.{_≡_}
-use mathlib.Core.Logic.{_↔_, _≢_}
+use mathlib.Core.Logic.{_↔_}
 use mathlib.Core.List.{List, [], List·Memᴰ as In}
 use Prim.Native.Nat.{ℕ, _+_, _≤_, _<_}
 use lib.ListN.{length}
@@ -36,7 +36,7 @@ use Rattle.demands.specs.Run.{Called, Run}
 use Rattle.demands.specs.Numbers.{SameNumbers}
 use Rattle.demands.proofs.Made.{run-holds, of-parse, of-verdict, decides, of-change}
 use Rattle.demands.proofs.Refused as refused
-use Rattle.demands.proofs.RuleAnswers as answers
+use Rattle.demands.proofs.Checks as checks
 use Rattle.demands.proofs.Room as room
 use Rattle.demands.proofs.Spared as spared
 
@@ -49,8 +49,8 @@ pub call-once : {call : Table → Outcome} {m n n′ : Mem} {a a′ k k′ : ℕ
     → SameLengths n n′ → (n ≡ n′) × (a ≡ a′) × (k ≡ k′)
 call-once = form.one-outcome
 
-pub parse-once : {pool : ℕ} {line b c c′ : List ℕ} {m n n′ : Mem} {v v′ : Verdict} → Parses pool line m n b c v → Parses pool line m n′ b c′ v′
-    → SameLengths n n′ → length c ≡ length c′ → (n ≡ n′) × (c ≡ c′) × (v ≡ v′)
+pub parse-once : {pool : ℕ} {line b c c′ : List ℕ} {m n n′ : Mem} {v v′ : Verdict} → Parses pool line m n b c v
+    → Parses pool line m n′ b c′ v′ → SameLengths n n′ → length c ≡ length c′ → (n ≡ n′) × (c ≡ c′) × (v ≡ v′)
 parse-once = recogniser.one-outcome
 
 -- the answer is one of the call's own; a refusal answers the number 0, and below NO-SETS it leaves every lent number
@@ -69,24 +69,17 @@ pub refusal-leaves-links : {pool : ℕ} {line b c : List ℕ} {m n : Mem} {v : V
     → LeavesAll (numberOf (v .answer)) → c ≡ b
 refusal-leaves-links = refused.refusal-leaves-links
 
--- after any sequence, what is no rule is refused as such, and THERE, NOT-THERE and NO-RULES go by the rules that are left
-module _ {m n : Mem} {R : List Rule} (r : Run m R) (x : ℕ) (w : List ℕ) {a k : ℕ} where
-  pub add-bad-rule : Promised (λ t. calls.add t x w) m n a k → ruleAnswer x w ≢ DONE → a ≡ ruleAnswer x w
-  add-bad-rule = answers.add-bad-rule r x w
+-- after any sequence THERE, NOT-THERE and NO-RULES go by the rules that are left (the other checks' refusals: `Checks`)
+module _ {m n : Mem} {R : List Rule} (r : Run m R) (x : ℕ) (w : List ℕ) (passed : ruleAnswer x w ≡ DONE) {a k : ℕ} where
+  pub there-exactly : Promised (λ t. calls.add t x w) m n a k → (a ≡ THERE) ↔ In (rule x w) R
+  there-exactly = checks.there-exactly r x w passed
 
-  pub delete-bad-rule : Promised (λ t. calls.delete t x w) m n a k → ruleAnswer x w ≢ DONE → a ≡ ruleAnswer x w
-  delete-bad-rule = answers.delete-bad-rule r x w
+  pub not-there-exactly : Promised (λ t. calls.delete t x w) m n a k → (a ≡ NOT-THERE) ↔ (In (rule x w) R → ⊥)
+  not-there-exactly = checks.not-there-exactly r x w passed
 
-  module _ (passed : ruleAnswer x w ≡ DONE) where
-    pub there-exactly : Promised (λ t. calls.add t x w) m n a k → (a ≡ THERE) ↔ In (rule x w) R
-    there-exactly = answers.there-exactly r x w passed
-
-    pub not-there-exactly : Promised (λ t. calls.delete t x w) m n a k → (a ≡ NOT-THERE) ↔ (In (rule x w) R → ⊥)
-    not-there-exactly = answers.not-there-exactly r x w passed
-
-    pub no-rules-exactly : Promised (λ t. calls.add t x w) m n a k
-        → (a ≡ NO-RULES) ↔ ((In (rule x w) R → ⊥) × (length R ≡ rulesIn (m .rules)))
-    no-rules-exactly = answers.no-rules-exactly r x w passed
+  pub no-rules-exactly : Promised (λ t. calls.add t x w) m n a k
+      → (a ≡ NO-RULES) ↔ ((In (rule x w) R → ⊥) × (length R ≡ rulesIn (m .rules)))
+  no-rules-exactly = checks.no-rules-exactly r x w passed
 
 -- New, Collect, Restart and Parse keep the form of every table in form, made or not
 pub new-keeps-form : {m n : Mem} {s r a : ℕ} → NewPromised m n s r a → Formed m → Formed n
@@ -130,7 +123,8 @@ module _ {m n : Mem} {R : List Rule} (r : Run m R) {pool : ℕ} {line b c : List
   -- within the limits, over a buffer with room for its pool, answer, number and table come exactly when 01's steps give them
   pub exactly-when : Fits pool line → numbersFor pool ≤ length b → (o : Outcome)
       → (outcome answer (v .links) (view n) ≡ o) ↔ Steps pool (view m) 0 [] line o
-  exactly-when fits room o = of-parse r p room (λ q. (q ≡ o) ↔ Steps pool (view m) 0 [] line o) (λ h. demand2.exactly-when h pool line fits o)
+  exactly-when fits room o =
+      of-parse r p room (λ q. (q ≡ o) ↔ Steps pool (view m) 0 [] line o) (λ h. demand2.exactly-when h pool line fits o)
 
 -- ---- Demand 3: of the table after any sequence, which is in form, so that no call on it answers BAD-TABLE
 

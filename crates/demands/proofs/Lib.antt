@@ -2,6 +2,6 @@
 pub mod Demands
 pub mod Made
 pub mod Refused
-pub mod RuleAnswers
+pub mod Checks
 pub mod Room
 pub mod Spared

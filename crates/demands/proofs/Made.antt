@@ -3,7 +3,8 @@ use mathlib.Core.Path.{_≡_, refl, sym, _∙_, ap, subst}
 use mathlib.Core.Bool.{Bool, true, false}
 use mathlib.Core.Logic.{_↔_, _⊎_, inl, inr, ⊎-elim}
 use mathlib.Core.List.{List, [], _∷_}
-use Prim.Native.Nat.{ℕ, _+_, _*_, _≤_}
+use Prim.Native.Nat.{ℕ, _+_, _*_, _≤_, _<_}
+use native.Mathlib.Decide.{decLe}
 use native.Mathlib.Omega.{arith}
 use lib.Dec.{T, eqb, leb, leb→le, le→leb}
 use lib.ListN.{length}
@@ -42,7 +43,8 @@ pub record Holds (m : Mem) (R : List Rule) : Type 0 where
 
 holds : {m n : Mem} {t : Table} {R : List Rule} → Becomes m n t → Made t R → Holds n R
 holds {n = n} {t} {R} b h =
-    let k : Made (view n) R = subst (λ t. Made t R) (sym (b .seen)) h in record { formed = record { laid = b .laid; form = in-form k }; made = k }
+    let k : Made (view n) R = subst (λ t. Made t R) (sym (b .seen)) h in
+    record { formed = record { laid = b .laid; form = in-form k }; made = k }
 
 -- ---- New, by its test
 
@@ -78,35 +80,35 @@ call-holds {R = R} c a k H p e =
 -- ---- Parse, by the room for its links
 
 pub lent : (b : List ℕ) (pool : ℕ) (line : List ℕ) (t : Table) (P : Outcome → Type 0)
-    → (numbersFor pool ≤ length b → P (calls.parse t pool line)) → P (calls.checked t (calls.refused BAD-POOL t)) → P (lentParse b pool line t)
-lent b pool line t P f g = when-cases P (leb (numbersFor pool) (length b)) (λ e. f (leb→le (numbersFor pool) (length b) (passes e))) (λ e. g)
+    → (numbersFor pool ≤ length b → P (calls.parse t pool line))
+    → (length b < numbersFor pool → P (calls.checked t (calls.refused BAD-POOL t))) → P (lentParse b pool line t)
+lent b pool line t P f g =
+    let need = numbersFor pool in
+    when-cases P (leb need (length b)) (λ e. f (leb→le need (length b) (passes e)))
+    (λ e. g (elim (decLe need (length b)) [ yes h ↦ absurd (fails e (le→leb need (length b) h)) | no h ↦ omega arith ]))
 
-module _ {m n : Mem} {R : List Rule} {b c : List ℕ} {pool : ℕ} {line : List ℕ} {v : Verdict} (H : Holds m R) (p : Parses pool line m n b c v) where
-  short : (P : Outcome → Type 0) → P (calls.refused BAD-POOL (view m)) → P (calls.checked (view m) (calls.refused BAD-POOL (view m)))
-  short P = subst P (sym (checked-is (H .formed .form) (calls.refused BAD-POOL (view m))))
+module _ {m n : Mem} {pool : ℕ} {line b c : List ℕ} {v : Verdict} (f : Formed m) (p : Parses pool line m n b c v) where
+  -- what holds of the model's outcome, with room and without, holds of what the call answers and leaves
+  pub of-lent : (P : Outcome → Type 0) → (numbersFor pool ≤ length b → P (calls.parse (view m) pool line))
+      → (length b < numbersFor pool → P (calls.refused BAD-POOL (view m))) → P (outcome (numberOf (v .answer)) (v .links) (view n))
+  of-lent P roomy short =
+      let a = p .promised .answer f in
+      let k = p .promised .number f in
+      let t = p .promised .table f .seen in
+      subst P (sym (λ i. record { answer = a i; number = k i; table = t i }))
+      (lent b pool line (view m) P roomy (λ h. subst P (sym (checked-is (f .form) (calls.refused BAD-POOL (view m)))) (short h)))
 
+module _ {m n : Mem} {R : List Rule} {pool : ℕ} {line b c : List ℕ} {v : Verdict} (H : Holds m R) (p : Parses pool line m n b c v) where
   parse-holds : Holds n R
   parse-holds =
-      lent b pool line (view m) (λ o. Becomes m n (o .table) → Holds n R) (λ h q. holds q (still-made (H .made) pool line))
-      (short (λ o. Becomes m n (o .table) → Holds n R) (λ q. holds q (H .made))) (p .promised .table (H .formed))
+      let made = of-lent (H .formed) p (λ o. Made (o .table) R) (λ h. still-made (H .made) pool line) (λ h. H .made) in
+      record { formed = record { laid = p .promised .table (H .formed) .laid; form = in-form made }; made = made }
 
-  -- with room for the pool, what the call answers and leaves is the model's outcome
-  outcome-is : numbersFor pool ≤ length b → calls.parse (view m) pool line ≡ outcome (numberOf (v .answer)) (v .links) (view n)
-  outcome-is h =
-      let q : calls.parse (view m) pool line ≡ lentParse b pool line (view m) =
-      when-cases (λ o. calls.parse (view m) pool line ≡ o) (leb (numbersFor pool) (length b)) (λ e. refl)
-      (λ e. absurd (fails e (le→leb (numbersFor pool) (length b) h))) in
-      let a = p .promised .answer (H .formed) in
-      let k = p .promised .number (H .formed) in
-      let t = p .promised .table (H .formed) .seen in
-      q ∙ sym (λ i. record { answer = a i; number = k i; table = t i })
-
-  -- and what no check refused had room
+  -- what no check refused had room
   past-room : (LeavesAll (numberOf (v .answer)) → ⊥) → numbersFor pool ≤ length b
-  past-room d =
-      lent b pool line (view m) (λ o. (LeavesAll (o .answer) → ⊥) → numbersFor pool ≤ length b) (λ h f. h)
-      (short (λ o. (LeavesAll (o .answer) → ⊥) → numbersFor pool ≤ length b) (λ f. absurd (f (omega arith, omega arith))))
-      (subst (λ a. LeavesAll a → ⊥) (p .promised .answer (H .formed)) d)
+  past-room =
+      of-lent (H .formed) p (λ o. (LeavesAll (o .answer) → ⊥) → numbersFor pool ≤ length b) (λ h d. h)
+      (λ h d. absurd (d (omega arith, omega arith)))
 
 -- ---- any sequence
 
@@ -130,21 +132,23 @@ run-holds (after r p e) = called-holds (run-holds r) p e
 
 -- ---- so what is known of the model's calls on made tables is known of the real ones
 
-module _ {m n : Mem} {R : List Rule} {b c : List ℕ} {pool : ℕ} {line : List ℕ} {v : Verdict} (r : Run m R) (p : Parses pool line m n b c v) where
+module _ {m n : Mem} {R : List Rule} {pool : ℕ} {line b c : List ℕ} {v : Verdict} (r : Run m R) (p : Parses pool line m n b c v) where
   pub of-parse : numbersFor pool ≤ length b → (P : Outcome → Type 0) → (Made (view m) R → P (calls.parse (view m) pool line))
       → P (outcome (numberOf (v .answer)) (v .links) (view n))
-  of-parse h P f = let H = run-holds r in subst P (outcome-is H p h) (f (H .made))
+  of-parse h P f = let H = run-holds r in of-lent (H .formed) p P (λ k. f (H .made)) (λ k. absurd (omega arith))
 
   -- past the checks nothing is asked
   pub of-past : (LeavesAll (numberOf (v .answer)) → ⊥) → (P : Outcome → Type 0) → (Made (view m) R → P (calls.parse (view m) pool line))
       → P (outcome (numberOf (v .answer)) (v .links) (view n))
   of-past d = of-parse (past-room (run-holds r) p d)
 
-  pub of-verdict : (P : Outcome → Type 0) → (Made (view m) R → IsVerdict (calls.parse (view m) pool line .answer) → P (calls.parse (view m) pool line))
+  pub of-verdict : (P : Outcome → Type 0)
+      → (Made (view m) R → IsVerdict (calls.parse (view m) pool line .answer) → P (calls.parse (view m) pool line))
       → IsVerdict (numberOf (v .answer)) → P (outcome (numberOf (v .answer)) (v .links) (view n))
   of-verdict P f a = of-past (λ (h, l). ⊎-elim (λ e. omega arith) (λ e. omega arith) a) (λ o. IsVerdict (o .answer) → P o) f a
 
-  pub decides : {G : Grammar} → (Made (view m) R → Decides G line (calls.parse (view m) pool line .answer)) → Decides G line (numberOf (v .answer))
+  pub decides : {G : Grammar} → (Made (view m) R → Decides G line (calls.parse (view m) pool line .answer))
+      → Decides G line (numberOf (v .answer))
   decides {G} = of-verdict (λ o. (o .answer ≡ ACCEPT) ↔ Derives G (START ∷ []) line)
 
 pub of-answer : {call : Table → Outcome} {m n : Mem} {R : List Rule} {a k : ℕ} → Run m R → Promised call m n a k

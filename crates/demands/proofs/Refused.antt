@@ -1,18 +1,19 @@
 -- What every call answers and what a refusal leaves, on any lent numbers; and that New, Collect, Restart and Parse keep the form.
 -- Assumes nothing.
 use mathlib.Core.Path.{_≡_, refl, sym, _∙_, subst}
-use mathlib.Core.Logic.{_⊎_, inl, inr, ⊎-elim}
-use mathlib.Core.List.{List, [], _∷_, List·Memᴰ as In, List·Memᴰ·head as here, List·Memᴰ·tail as there, Memᴰ·cast}
+use mathlib.Core.Logic.{⊎-elim}
+use mathlib.Core.List.{List, List·Memᴰ as In, List·Memᴰ·head as here, List·Memᴰ·tail as there, Memᴰ·cast}
 use Prim.Native.Nat.{ℕ, _≤_}
 use native.Mathlib.Omega.{arith}
 use Rattle.laws.proofs.Choice.{when-cases}
-use Rattle.symbols.specs.Answer.{DONE, BAD-POOL, BAD-TABLE, numberOf}
+use Rattle.symbols.specs.Answer.{BAD-POOL, BAD-TABLE, numberOf}
 use Rattle.theory.specs.Table.{Table}
 use Rattle.theory.specs.Parse.{Outcome}
 use Rattle.theory.specs.Form.{InForm, inForm}
 use Rattle.theory.specs.Calls as calls
-use Rattle.theory.specs.Made.{Call, called}
-use Rattle.theory.specs.Made.Call.{add as add-call, delete as delete-call, collect as collect-call, restart as restart-call, parse as parse-call}
+use Rattle.theory.specs.Made.{Call}
+use Rattle.theory.specs.Made.Call.{add as add-call, delete as delete-call, collect as collect-call, restart as restart-call}
+use Rattle.theory.specs.Made.Call.{parse as parse-call}
 use Rattle.theory.specs.Answers.{LeavesAll, answersOf}
 use Rattle.theory.proofs.Answers as answers
 use Rattle.theory.proofs.Refusals.{Refusing, refusing}
@@ -25,10 +26,10 @@ use Rattle.table.proofs.OneOutcome.{SameLengths, one-memory}
 use Rattle.form.proofs.Formed.{formed-dec}
 use Rattle.generator.specs.Calls.{NewPromised}
 use Rattle.positions.specs.declared.Verdict.{Verdict}
-use Rattle.recogniser.specs.Parse.{Past, lentParse, Parses}
+use Rattle.recogniser.specs.Parse.{lentParse, Parses}
 use Rattle.demands.specs.Run.{Called}
 use Rattle.demands.specs.Run.Called.{new, add, delete, collect, restart, parse}
-use Rattle.demands.proofs.Made.{new-or, lent}
+use Rattle.demands.proofs.Made.{new-or, lent, of-lent}
 
 -- ---- the answers
 
@@ -55,8 +56,9 @@ one-of-its-answers (parse {pool = pool} {line = line} {b = b} p e f) =
     bad-table = there (there (there (here refl)))
 
     of : (t : Table) → In (lentParse b pool line t .answer) (answersOf (parse-call pool line))
-    of t = lent b pool line t (λ o. In (o .answer) (answersOf (parse-call pool line))) (λ h. answers.one-of-its-answers (parse-call pool line) t)
-        (when-cases (λ (o : Outcome). In (o .answer) (answersOf (parse-call pool line))) (inForm t) (λ e. bad-pool) (λ e. bad-table))
+    of t = lent b pool line t (λ o. In (o .answer) (answersOf (parse-call pool line)))
+        (λ h. answers.one-of-its-answers (parse-call pool line) t)
+        (λ h. when-cases (λ (o : Outcome). In (o .answer) (answersOf (parse-call pool line))) (inForm t) (λ e. bad-pool) (λ e. bad-table))
 
 -- ---- what a refusal leaves
 
@@ -66,7 +68,9 @@ same-numbers {m} {n} f b l =
     one-memory m n m (view m) b (record { laid = f .laid; seen = refl; rules = λ k h. refl; cells = λ k h. refl; words = λ k h. refl }) l
 
 lent-refusing : (b : List ℕ) (pool : ℕ) (line : List ℕ) (t : Table) → Refusing t (lentParse b pool line t)
-lent-refusing b pool line t = lent b pool line t (Refusing t) (λ h. refusing (parse-call pool line) t) (when-cases (Refusing t) (inForm t) (λ e. refused) (λ e. refused))
+lent-refusing b pool line t =
+    lent b pool line t (Refusing t) (λ h. refusing (parse-call pool line) t)
+    (λ h. when-cases (Refusing t) (inForm t) (λ e. refused) (λ e. refused))
   where
     refused : {a : ℕ} → Refusing t (calls.refused a t)
     refused = record { leaves = λ l. refl; number = λ h. refl }
@@ -78,7 +82,8 @@ module _ {call : Table → Outcome} (f : (t : Table) → Refusing t (call t)) {m
       (λ g. p .no-table g .2) (formed-dec m)
 
   promised-number : BAD-POOL ≤ a → k ≡ 0
-  promised-number h = ⊎-elim (λ g. p .number g ∙ f (view m) .number (subst (λ a. BAD-POOL ≤ a) (p .answer g) h)) (λ g. p .no-table g .1) (formed-dec m)
+  promised-number h = ⊎-elim
+      (λ g. p .number g ∙ f (view m) .number (subst (λ a. BAD-POOL ≤ a) (p .answer g) h)) (λ g. p .no-table g .1) (formed-dec m)
 
 pub refusal-leaves-all : {c : Call} {m n : Mem} {a k : ℕ} → Called c m n a k → SameLengths n m → LeavesAll a → n ≡ m
 refusal-leaves-all (new p z) l (h, g) = ⊎-elim (λ (f, e, b). absurd (omega arith)) (λ (e, q). q) (new-or p)
@@ -98,7 +103,7 @@ refusal-number (restart p) h = promised-number (refusing restart-call) p h
 refusal-number (parse {pool = pool} {line = line} {b = b} p e f) h =
     sym f ∙ promised-number (lent-refusing b pool line) (p .promised) (subst (λ a. BAD-POOL ≤ a) (sym e) h)
 
-pub refusal-leaves-links : {pool : ℕ} {line : List ℕ} {m n : Mem} {b c : List ℕ} {v : Verdict} → Parses pool line m n b c v
+pub refusal-leaves-links : {pool : ℕ} {line b c : List ℕ} {m n : Mem} {v : Verdict} → Parses pool line m n b c v
     → LeavesAll (numberOf (v .answer)) → c ≡ b
 refusal-leaves-links p (h, l) =
     p .untouched (⊎-elim (λ e. omega arith) (⊎-elim (λ e. omega arith) (⊎-elim (λ e. omega arith) (λ e. omega arith))))
@@ -111,7 +116,8 @@ promised-keeps g p f = let b = p .table f in record { laid = b .laid; form = sub
 
 pub new-keeps-form : {m n : Mem} {s r a : ℕ} → NewPromised m n s r a → Formed m → Formed n
 new-keeps-form {s = s} {r} p f = ⊎-elim
-    (λ (z, e, b). record { laid = b .laid; form = subst InForm (sym (b .seen)) (new-in-form s r (z .in-range)) }) (λ (e, q). subst Formed (sym q) f) (new-or p)
+    (λ (z, e, b). record { laid = b .laid; form = subst InForm (sym (b .seen)) (new-in-form s r (z .in-range)) })
+    (λ (e, q). subst Formed (sym q) f) (new-or p)
 
 pub collect-keeps-form : {m n : Mem} {a k : ℕ} → Promised calls.collect m n a k → Formed m → Formed n
 collect-keeps-form {m} = promised-keeps (kept.collect-keeps-form (view m))
@@ -119,7 +125,8 @@ collect-keeps-form {m} = promised-keeps (kept.collect-keeps-form (view m))
 pub restart-keeps-form : {m n : Mem} {a k : ℕ} → Promised calls.restart m n a k → Formed m → Formed n
 restart-keeps-form {m} = promised-keeps (kept.restart-keeps-form (view m))
 
-pub parse-keeps-form : {pool : ℕ} {line : List ℕ} {m n : Mem} {b c : List ℕ} {v : Verdict} → Parses pool line m n b c v → Formed m → Formed n
-parse-keeps-form {pool} {line} {m} {b = b} p =
-    promised-keeps (λ g. lent b pool line (view m) (λ o. InForm (o .table)) (λ h. kept.parse-keeps-form (view m) g pool line)
-    (when-cases (λ (o : Outcome). InForm (o .table)) (inForm (view m)) (λ e. g) (λ e. g))) (p .promised)
+pub parse-keeps-form : {pool : ℕ} {line b c : List ℕ} {m n : Mem} {v : Verdict} → Parses pool line m n b c v → Formed m → Formed n
+parse-keeps-form {pool} {line} {m = m} p f = record {
+  laid = p .promised .table f .laid;
+  form = of-lent f p (λ o. InForm (o .table)) (λ h. kept.parse-keeps-form (view m) (f .form) pool line) (λ h. f .form);
+}

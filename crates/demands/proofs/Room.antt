@@ -5,7 +5,6 @@ use mathlib.Core.Logic.{_↔_}
 use mathlib.Core.List.{List}
 use Prim.Native.Nat.{ℕ, _+_, _<_}
 use native.Mathlib.Omega.{arith}
-use lib.ListN.{length}
 use Rattle.laws.proofs.Tables.{length-tab}
 use Rattle.symbols.specs.Answer.{NO-SETS, numberOf}
 use Rattle.theory.specs.Table.{Reach}
@@ -21,8 +20,8 @@ use Rattle.recogniser.specs.Parse.{Parses}
 use Rattle.demands.specs.Run.{Run}
 use Rattle.demands.proofs.Made.{of-past}
 
-pub room-exact : {m n : Mem} {u a b : ℕ} {done : Bool} → Expandable m u → Expands m n u done → Many (Reach (view m)) a → Many (Lacks (view m) u) b
-    → (done ≡ false) ↔ (setsIn (m .rules) < a + b)
+pub room-exact : {m n : Mem} {u a b : ℕ} {done : Bool} → Expandable m u → Expands m n u done → Many (Reach (view m)) a
+    → Many (Lacks (view m) u) b → (done ≡ false) ↔ (setsIn (m .rules) < a + b)
 room-exact {m} {u = u} {a} {b} 𝓔 𝓧 reached lacking =
     subst (λ d. (d ≡ false) ↔ (setsIn (m .rules) < a + b)) (sym (𝓧 .done))
     (subst (λ k. (expand (view m) u .done ≡ false) ↔ (k < a + b)) (length-tab (setsIn (m .rules)) (setSeen (rulesIn (m .rules)) (m .sets)))

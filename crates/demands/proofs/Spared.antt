@@ -13,7 +13,7 @@ use Rattle.symbols.specs.Answer.{DONE}
 use Rattle.theory.specs.Table.{CURRENT, RulePlace, SetPlace, Table, freeSet, setAt}
 use Rattle.theory.specs.Expansion.{freed, collected}
 use Rattle.theory.specs.Calls as calls
-use Rattle.theory.specs.Calls.{touched, putRule}
+use Rattle.theory.specs.Calls.{putRule}
 use Rattle.theory.specs.Changes.{CollectsFirst}
 use Rattle.theory.specs.Made.{Rule, Made}
 use Rattle.theory.proofs.Accepted.{placed}
@@ -44,7 +44,7 @@ module _ {t : Table} {R : List Rule} (m : Made t R) (x : ℕ) (w : List ℕ) whe
     where
       of : (u : Table) (n : ℕ) → ((CollectsFirst t x w → ⊥) × (u ≡ t)) ⊎ (CollectsFirst t x w × (u ≡ collected t))
           → SameSizes t (putRule u n (placed CURRENT x w))
-      of u n (inl (z, e)) = let (p, q) = put-sizes u n (placed CURRENT x w) in (p ∙ ap (λ u. length (u .rules)) e, q ∙ ap (λ u. length (u .sets)) e)
+      of u n (inl (z, e)) = subst (λ v. SameSizes v (putRule u n (placed CURRENT x w))) e (put-sizes u n (placed CURRENT x w))
       of u n (inr (z, e)) = let (p, q) = put-sizes u n (placed CURRENT x w) in (
         p ∙ ap (λ u. length (u .rules)) e ∙ length-map (t .rules) freed,
         q ∙ ap (λ u. length (u .sets)) e ∙ length-tab (length (t .sets)) _,
@@ -57,7 +57,8 @@ module _ {t : Table} {R : List Rule} (m : Made t R) (x : ℕ) (w : List ℕ) whe
 
 module _ {m n : Mem} (lm : Laid m) (ln : Laid n) (sizes : SameSizes (view m) (view n)) where
   same-rules : rulesIn (n .rules) ≡ rulesIn (m .rules)
-  same-rules = sym (length-tab (rulesIn (n .rules)) (ruleSeen (n .rules))) ∙ sizes .0 ∙ length-tab (rulesIn (m .rules)) (ruleSeen (m .rules))
+  same-rules =
+      sym (length-tab (rulesIn (n .rules)) (ruleSeen (n .rules))) ∙ sizes .0 ∙ length-tab (rulesIn (m .rules)) (ruleSeen (m .rules))
 
   same-sets : setsIn (n .rules) ≡ setsIn (m .rules)
   same-sets =
@@ -70,7 +71,8 @@ module _ {m n : Mem} (lm : Laid m) (ln : Laid n) (sizes : SameSizes (view m) (vi
       let k : s < setsIn (n .rules) = omega (arith, same-sets) in
       let laid : LaidSet r (n .sets) s = subst (λ i. LaidSet i (n .sets) s) same-rules (ln .each-set s k) in
       let seen : setSeen r (n .sets) s ≡ setSeen r (m .sets) s =
-      ap (λ i. setSeen i (n .sets) s) (sym same-rules) ∙ sym (getD-tab (setsIn (n .rules)) s (setSeen (rulesIn (n .rules)) (n .sets)) freeSet k)
+      ap (λ i. setSeen i (n .sets) s) (sym same-rules)
+      ∙ sym (getD-tab (setsIn (n .rules)) s (setSeen (rulesIn (n .rules)) (n .sets)) freeSet k)
       ∙ e ∙ getD-tab (setsIn (m .rules)) s (setSeen r (m .sets)) freeSet l in
       record {
         cells = same-cells r (n .sets) (m .sets) s laid (lm .each-set s l) seen;

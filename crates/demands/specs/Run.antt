@@ -5,7 +5,8 @@ use Prim.Native.Nat.{ℕ}
 use Rattle.symbols.specs.Answer.{DONE, numberOf}
 use Rattle.theory.specs.Calls as calls
 use Rattle.theory.specs.Made.{Call, Rule, left}
-use Rattle.theory.specs.Made.Call.{new as new-call, add as add-call, delete as delete-call, collect as collect-call, restart as restart-call, parse as parse-call}
+use Rattle.theory.specs.Made.Call.{new as new-call, add as add-call, delete as delete-call}
+use Rattle.theory.specs.Made.Call.{collect as collect-call, restart as restart-call, parse as parse-call}
 use Rattle.table.specs.Layout.{Mem}
 use Rattle.table.specs.Becomes.{Promised}
 use Rattle.generator.specs.Calls.{NewPromised}
