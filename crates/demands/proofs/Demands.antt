@@ -37,6 +37,7 @@ use Rattle.demands.specs.Numbers.{SameNumbers}
 use Rattle.demands.proofs.Made.{run-holds, of-parse, of-verdict, decides, of-change}
 use Rattle.demands.proofs.Refused as refused
 use Rattle.demands.proofs.Checks as checks
+use Rattle.demands.proofs.FormKept as kept
 use Rattle.demands.proofs.Room as room
 use Rattle.demands.proofs.Spared as spared
 
@@ -83,16 +84,16 @@ module _ {m n : Mem} {R : List Rule} (r : Run m R) (x : ℕ) (w : List ℕ) (pas
 
 -- New, Collect, Restart and Parse keep the form of every table in form, made or not
 pub new-keeps-form : {m n : Mem} {s r a : ℕ} → NewPromised m n s r a → Formed m → Formed n
-new-keeps-form = refused.new-keeps-form
+new-keeps-form = kept.new-keeps-form
 
 pub collect-keeps-form : {m n : Mem} {a k : ℕ} → Promised calls.collect m n a k → Formed m → Formed n
-collect-keeps-form = refused.collect-keeps-form
+collect-keeps-form = kept.collect-keeps-form
 
 pub restart-keeps-form : {m n : Mem} {a k : ℕ} → Promised calls.restart m n a k → Formed m → Formed n
-restart-keeps-form = refused.restart-keeps-form
+restart-keeps-form = kept.restart-keeps-form
 
 pub parse-keeps-form : {pool : ℕ} {line b c : List ℕ} {m n : Mem} {v : Verdict} → Parses pool line m n b c v → Formed m → Formed n
-parse-keeps-form = refused.parse-keeps-form
+parse-keeps-form = kept.parse-keeps-form
 
 -- an expansion "fails exactly when the sets reachable before it, and the kernels it leads to that none of them has, together outnumber
 -- the pool"

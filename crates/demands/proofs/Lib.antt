@@ -3,5 +3,6 @@ pub mod Demands
 pub mod Made
 pub mod Refused
 pub mod Checks
+pub mod FormKept
 pub mod Room
 pub mod Spared

@@ -1,5 +1,4 @@
--- What every call answers and what a refusal leaves, on any lent numbers; and that New, Collect, Restart and Parse keep the form.
--- Assumes nothing.
+-- What every call answers and what a refusal leaves, on any lent numbers. Assumes nothing.
 use mathlib.Core.Path.{_≡_, refl, sym, _∙_, subst}
 use mathlib.Core.Logic.{⊎-elim}
 use mathlib.Core.List.{List, List·Memᴰ as In, List·Memᴰ·head as here, List·Memᴰ·tail as there, Memᴰ·cast}
@@ -9,7 +8,7 @@ use Rattle.laws.proofs.Choice.{when-cases}
 use Rattle.symbols.specs.Answer.{BAD-POOL, BAD-TABLE, numberOf}
 use Rattle.theory.specs.Table.{Table}
 use Rattle.theory.specs.Parse.{Outcome}
-use Rattle.theory.specs.Form.{InForm, inForm}
+use Rattle.theory.specs.Form.{inForm}
 use Rattle.theory.specs.Calls as calls
 use Rattle.theory.specs.Made.{Call}
 use Rattle.theory.specs.Made.Call.{add as add-call, delete as delete-call, collect as collect-call, restart as restart-call}
@@ -17,19 +16,16 @@ use Rattle.theory.specs.Made.Call.{parse as parse-call}
 use Rattle.theory.specs.Answers.{LeavesAll, answersOf}
 use Rattle.theory.proofs.Answers as answers
 use Rattle.theory.proofs.Refusals.{Refusing, refusing}
-use Rattle.theory.proofs.FormNew.{new-in-form}
-use Rattle.theory.proofs.FormKept as kept
 use Rattle.table.specs.Layout.{Mem, view}
 use Rattle.table.specs.Laid.{Formed}
 use Rattle.table.specs.Becomes.{Becomes, Promised}
 use Rattle.table.proofs.OneOutcome.{SameLengths, one-memory}
 use Rattle.form.proofs.Formed.{formed-dec}
-use Rattle.generator.specs.Calls.{NewPromised}
 use Rattle.positions.specs.declared.Verdict.{Verdict}
 use Rattle.recogniser.specs.Parse.{lentParse, Parses}
 use Rattle.demands.specs.Run.{Called}
 use Rattle.demands.specs.Run.Called.{new, add, delete, collect, restart, parse}
-use Rattle.demands.proofs.Made.{new-or, lent, of-lent}
+use Rattle.demands.proofs.Made.{new-or, lent}
 
 -- ---- the answers
 
@@ -107,26 +103,3 @@ pub refusal-leaves-links : {pool : ℕ} {line b c : List ℕ} {m n : Mem} {v : V
     → LeavesAll (numberOf (v .answer)) → c ≡ b
 refusal-leaves-links p (h, l) =
     p .untouched (⊎-elim (λ e. omega arith) (⊎-elim (λ e. omega arith) (⊎-elim (λ e. omega arith) (λ e. omega arith))))
-
--- ---- the form
-
-promised-keeps : {call : Table → Outcome} {m n : Mem} {a k : ℕ} → (InForm (view m) → InForm (call (view m) .table)) → Promised call m n a k
-    → Formed m → Formed n
-promised-keeps g p f = let b = p .table f in record { laid = b .laid; form = subst InForm (sym (b .seen)) (g (f .form)) }
-
-pub new-keeps-form : {m n : Mem} {s r a : ℕ} → NewPromised m n s r a → Formed m → Formed n
-new-keeps-form {s = s} {r} p f = ⊎-elim
-    (λ (z, e, b). record { laid = b .laid; form = subst InForm (sym (b .seen)) (new-in-form s r (z .in-range)) })
-    (λ (e, q). subst Formed (sym q) f) (new-or p)
-
-pub collect-keeps-form : {m n : Mem} {a k : ℕ} → Promised calls.collect m n a k → Formed m → Formed n
-collect-keeps-form {m} = promised-keeps (kept.collect-keeps-form (view m))
-
-pub restart-keeps-form : {m n : Mem} {a k : ℕ} → Promised calls.restart m n a k → Formed m → Formed n
-restart-keeps-form {m} = promised-keeps (kept.restart-keeps-form (view m))
-
-pub parse-keeps-form : {pool : ℕ} {line b c : List ℕ} {m n : Mem} {v : Verdict} → Parses pool line m n b c v → Formed m → Formed n
-parse-keeps-form {pool} {line} {m = m} p f = record {
-  laid = p .promised .table f .laid;
-  form = of-lent f p (λ o. InForm (o .table)) (λ h. kept.parse-keeps-form (view m) (f .form) pool line) (λ h. f .form);
-}
