@@ -1,10 +1,12 @@
 -- What the changes of a lent table ask and promise. Assumes nothing.
 use mathlib.Core.List.{List}
 use Prim.Native.Nat.{ℕ, _+_, _*_, _≤_, _<_}
+use lib.Dec.{T}
 use lib.ListN.{length, set}
 use Rattle.symbols.specs.Rule.{WellFormed, rightSide}
 use Rattle.symbols.specs.declared.rule.Rule.{Rule}
 use Rattle.theory.specs.Table.{RulePlace, Table, unexpanded, setAt}
+use Rattle.theory.specs.Calls.{poolsInRange}
 use Rattle.table.specs.Layout.{Sets, Mem, rulesIn, view}
 use Rattle.table.specs.Laid.{Laid}
 use Rattle.table.specs.Becomes.{Becomes}
@@ -34,10 +36,7 @@ StartUnexpanded x y = (rs : List ℕ) → Laid (withRules rs x) → Becomes (wit
 
 -- the sizes are in range and the slices are as long as they need
 pub record Fits (m : Mem) (sets places : ℕ) : Type 0 where
-  pub some-sets : 1 ≤ sets
-  pub few-sets : sets ≤ 255
-  pub some-places : 1 ≤ places
-  pub few-places : places ≤ 128
+  pub in-range : T (poolsInRange sets places)
   pub rules : 2 + places * 10 ≤ length (m .rules)
   pub cells : sets * 128 ≤ length (m .sets .cells)
   pub words : sets * 18 ≤ length (m .sets .words)

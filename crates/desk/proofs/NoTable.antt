@@ -5,7 +5,7 @@ use mathlib.Core.List.{List}
 use Prim.Native.Nat.{ℕ}
 use native.Mathlib.Omega.{arith}
 use Rattle.laws.specs.Choice.{_or_, when}
-use Rattle.symbols.specs.Answer.{numberOf}
+use Rattle.symbols.specs.Answer.{BAD-TABLE, numberOf}
 use Rattle.theory.specs.Table.{Table, inUse}
 use Rattle.theory.specs.Parse.{Outcome}
 use Rattle.table.specs.Layout.{Mem, setsIn, view}
@@ -30,43 +30,43 @@ OnTable restart = Unit {0}
 OnTable list = Unit {0}
 OnTable malformed = ⊥
 
-change-eleven : (k : ℕ) → changeLine 11 k ≡ answerLine 11
+change-says-so : (k : ℕ) → changeLine BAD-TABLE k ≡ answerLine BAD-TABLE
 unfolding changeLine answerLine when
-change-eleven k = refl
+change-says-so k = refl
 
-parse-eleven : (k s : ℕ) → parseLine 11 k s ≡ answerLine 11
+parse-says-so : (k s : ℕ) → parseLine BAD-TABLE k s ≡ answerLine BAD-TABLE
 unfolding parseLine answerLine pastChecks _or_ when
-parse-eleven k s = refl
+parse-says-so k s = refl
 
-collect-eleven : (s : ℕ) → collectLine 11 s ≡ answerLine 11
+collect-says-so : (s : ℕ) → collectLine BAD-TABLE s ≡ answerLine BAD-TABLE
 unfolding collectLine answerLine when
-collect-eleven s = refl
+collect-says-so s = refl
 
 kept : {d e : State} → Keeps d e → e .table ≡ d .table → e ≡ d
 kept k t = one-state t (k .links) (k .pool)
 
 module _ {call : Table → Outcome} {d e : State} {text : List ℕ} (none : Formed (d .table) → ⊥) where
-  changes-eleven : Changes call (d .table) (e .table) text → Keeps d e → (text ≡ answerLine 11) × (e ≡ d)
-  changes-eleven p k =
-      let (a, _, t) = p .promised .no-table none in (p .printed ∙ ap (λ a. changeLine a (p .number)) a ∙ change-eleven (p .number), kept k t)
+  changes-says-so : Changes call (d .table) (e .table) text → Keeps d e → (text ≡ answerLine BAD-TABLE) × (e ≡ d)
+  changes-says-so p k =
+      let (a, _, t) = p .promised .no-table none in (p .printed ∙ ap (λ a. changeLine a (p .number)) a ∙ change-says-so (p .number), kept k t)
 
-  collects-eleven : Collects call (d .table) (e .table) text → Keeps d e → (text ≡ answerLine 11) × (e ≡ d)
-  collects-eleven p k =
+  collects-says-so : Collects call (d .table) (e .table) text → Keeps d e → (text ≡ answerLine BAD-TABLE) × (e ≡ d)
+  collects-says-so p k =
       let (a, _, t) = p .promised .no-table none in
       let used = inUse (view (e .table)) in
-      (p .printed ∙ ap (λ a. collectLine a used) a ∙ collect-eleven used, kept k t)
+      (p .printed ∙ ap (λ a. collectLine a used) a ∙ collect-says-so used, kept k t)
 
-pub bad-table : {d e : State} {text : List ℕ} {m : Meaning} → (Formed (d .table) → ⊥) → OnTable m → Obeys d e text m → (text ≡ answerLine 11) × (e ≡ d)
+pub bad-table : {d e : State} {text : List ℕ} {m : Meaning} → (Formed (d .table) → ⊥) → OnTable m → Obeys d e text m → (text ≡ answerLine BAD-TABLE) × (e ≡ d)
 bad-table none o (makes p) = absurd o
-bad-table none o (adds p k) = changes-eleven none p k
-bad-table none o (deletes p k) = changes-eleven none p k
+bad-table none o (adds p k) = changes-says-so none p k
+bad-table none o (deletes p k) = changes-says-so none p k
 bad-table {e = e} none o (parses p k) =
     let (a, _, t) = p .parses .promised .no-table none in
     let not-past : Past (numberOf (p .verdict .answer)) → ⊥ = ⊎-elim (λ e. omega arith) (⊎-elim (λ e. omega arith) (⊎-elim (λ e. omega arith) (λ e. omega arith))) in
     let used = inUse (view (e .table)) in
-    (p .printed ∙ ap (λ a. parseLine a (p .verdict .links) used) a ∙ parse-eleven (p .verdict .links) used, one-state t (p .parses .untouched not-past) k)
-bad-table none o (collects p k) = collects-eleven none p k
-bad-table none o (restarts p k) = collects-eleven none p k
+    (p .printed ∙ ap (λ a. parseLine a (p .verdict .links) used) a ∙ parse-says-so (p .verdict .links) used, one-state t (p .parses .untouched not-past) k)
+bad-table none o (collects p k) = collects-says-so none p k
+bad-table none o (restarts p k) = collects-says-so none p k
 bad-table none o (lists p e) = (p .no-table none, e)
 bad-table none o (skips p e) = absurd o
 

@@ -42,6 +42,14 @@ pub record Script (d : State) (script : List ℕ) (e : State) (printed : List �
   pub last : Last between left e then
   pub in-order : first ++ then ≡ printed
 
+-- a line of a script, with the state that the lines before it left, its own state, and what it prints
+pub data LineOf (d : State) (script : List ℕ) : State → List ℕ → State → List ℕ → Type 0 where
+  first : {e : State} {l rest answer : List ℕ} → Unbroken l → Answers (l ++ (NEWLINE ∷ [])) d e answer → (l ++ (NEWLINE ∷ [])) ++ rest ≡ script
+      → LineOf d script d (l ++ (NEWLINE ∷ [])) e answer
+  later : {e f g : State} {l rest answer line text : List ℕ} → Unbroken l → Answers (l ++ (NEWLINE ∷ [])) d e answer
+      → (l ++ (NEWLINE ∷ [])) ++ rest ≡ script → LineOf e rest f line g text → LineOf d script f line g text
+  last : {e : State} {answer : List ℕ} → script ≢ [] → Unbroken script → Answers script d e answer → LineOf d script d script e answer
+
 -- what a script begins with: numbers for 128 sets and 128 rules, for 1,024 links, all zero
 unfoldable pub blank : State
 blank = state (mem (replicate 1282 0) (replicate 16384 0) (replicate 2304 0)) (replicate 6150 0) 0
