@@ -44,7 +44,7 @@ pub record Script (d : State) (script : List ℕ) (e : State) (printed : List �
 
 -- a line of a script, with the state that the lines before it left, its own state, and what it prints
 pub data LineOf (d : State) (script : List ℕ) : State → List ℕ → State → List ℕ → Type 0 where
-  first : {e : State} {l rest answer : List ℕ} → Unbroken l → Answers (l ++ (NEWLINE ∷ [])) d e answer → (l ++ (NEWLINE ∷ [])) ++ rest ≡ script
+  first : {e : State} {l answer : List ℕ} (rest : List ℕ) → Unbroken l → Answers (l ++ (NEWLINE ∷ [])) d e answer → (l ++ (NEWLINE ∷ [])) ++ rest ≡ script
       → LineOf d script d (l ++ (NEWLINE ∷ [])) e answer
   later : {e f g : State} {l rest answer line text : List ℕ} → Unbroken l → Answers (l ++ (NEWLINE ∷ [])) d e answer
       → (l ++ (NEWLINE ∷ [])) ++ rest ≡ script → LineOf e rest f line g text → LineOf d script f line g text
