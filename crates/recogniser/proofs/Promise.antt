@@ -1,4 +1,5 @@
 -- What Parse promises follows from its checks and from the steps that it did. Assumes nothing.
+use mathlib.Core.Bool.{Bool, true, false}
 use mathlib.Core.Path.{_≡_, refl, sym, _∙_, ap, subst}
 use mathlib.Core.Logic.{inl, inr, ⊎-elim}
 use mathlib.Core.List.{List, _++_}
@@ -7,6 +8,7 @@ use native.Mathlib.Omega.{arith}
 use lib.Dec.{T, leb, leb→le, le→leb}
 use lib.ListN.{length, getD, take, drop}
 use lib.Seq.{length-take-le, getD-append-add, getD-drop}
+use Rattle.laws.specs.Choice.{Tells}
 use Rattle.laws.proofs.Choice.{when-cases}
 use Rattle.symbols.specs.declared.answer.Answer.{Answer}
 use Rattle.symbols.specs.Answer.{numberOf}
@@ -31,8 +33,8 @@ use Rattle.positions.specs.Reading.{Readable, Reads}
 use Rattle.positions.proofs.Kept.{kept-none}
 use Rattle.recogniser.specs.declared.refusals.Checked.the-variants.{Passed, Refused}
 use Rattle.recogniser.specs.Parse.{lentParse, Past, Parses}
-use Rattle.recogniser.specs.Check.{Refusal, Checks}
-use Rattle.recogniser.specs.Check.Refusal.{bad-table, large-pool, short-buffer, long-line, bad-token}
+use Rattle.recogniser.specs.Check.{PoolFits, Refusal, Checks}
+use Rattle.recogniser.specs.Check.Refusal.{bad-table, bad-pool, long-line, bad-token}
 
 between : {a : ℕ} → Past a → 2 < a → a < 20 → ⊥
 between q h k = ⊎-elim (λ e. omega arith) (⊎-elim (λ e. omega arith) (⊎-elim (λ e. omega arith) (λ e. omega arith))) q
@@ -52,6 +54,14 @@ module _ {m : Mem} {room pool : ℕ} {line : List ℕ} where
       the : {a′ : Answer} → Refused a ≡ Refused a′ → a ≡ a′
       the e = cc
 
+-- the test of the pool, once its size is in range
+pub pool-told : (room pool : ℕ) → pool ≤ 4096 → Tells (leb (numbersFor pool) room) (PoolFits room pool)
+pool-told room pool h = go (leb (numbersFor pool) room) refl
+  where
+    go : (b : Bool) → leb (numbersFor pool) room ≡ b → Tells b (PoolFits room pool)
+    go true e = (h, leb→le (numbersFor pool) room (subst T (sym e) tt))
+    go false e = λ (_, l). fails e (le→leb (numbersFor pool) room l)
+
 -- ---- a refusal
 
 module _ (m : Mem) (pool : ℕ) (line b : List ℕ) where
@@ -67,19 +77,17 @@ module _ (m : Mem) (pool : ℕ) (line b : List ℕ) where
 
   lent-refused : {a : Answer} → Refusal m (length b) pool line a → Formed m → lentParse b pool line t ≡ refused (numberOf a) t
   lent-refused (bad-table f) 𝓕 = absurd (f 𝓕)
-  lent-refused (large-pool f h) 𝓕 =
-      when-cases (λ o. o ≡ refused 10 t) (leb (numbersFor pool) (length b)) (λ e. go (parsed t pool line)) (λ e. passed (f .form) (refused 10 t))
-    where
-      go : {o : Outcome} → Parsed t pool line o → o ≡ refused 10 t
-      go (p-table g) = absurd (g (f .form))
-      go (p-pool g k) = refl
-      go (p-line g k n) = absurd (omega arith)
-      go (p-token g k n d) = absurd (omega arith)
-      go (p-read g k n d) = absurd (omega arith)
-  lent-refused (short-buffer f h) 𝓕 =
+  lent-refused (bad-pool f w) 𝓕 =
       when-cases (λ o. o ≡ refused 10 t) (leb (numbersFor pool) (length b))
-      (λ e. absurd (let k = leb→le (numbersFor pool) (length b) (subst T (sym e) tt) in omega arith)) (λ e. passed (f .form) (refused 10 t))
-  lent-refused (long-line f h r l) 𝓕 = roomy r ∙ go (parsed t pool line)
+      (λ e. go (leb→le (numbersFor pool) (length b) (subst T (sym e) tt)) (parsed t pool line)) (λ e. passed (f .form) (refused 10 t))
+    where
+      go : {o : Outcome} → numbersFor pool ≤ length b → Parsed t pool line o → o ≡ refused 10 t
+      go h (p-table g) = absurd (g (f .form))
+      go h (p-pool g k) = refl
+      go h (p-line g k n) = absurd (w (omega arith, h))
+      go h (p-token g k n d) = absurd (w (omega arith, h))
+      go h (p-read g k n d) = absurd (w (omega arith, h))
+  lent-refused (long-line f (h, r) l) 𝓕 = roomy r ∙ go (parsed t pool line)
     where
       go : {o : Outcome} → Parsed t pool line o → o ≡ refused 18 t
       go (p-table g) = absurd (g (f .form))
@@ -87,7 +95,7 @@ module _ (m : Mem) (pool : ℕ) (line b : List ℕ) where
       go (p-line g k n) = refl
       go (p-token g k n d) = absurd (omega arith)
       go (p-read g k n d) = absurd (omega arith)
-  lent-refused (bad-token f h r l d) 𝓕 = roomy r ∙ go (parsed t pool line)
+  lent-refused (bad-token f (h, r) l d) 𝓕 = roomy r ∙ go (parsed t pool line)
     where
       go : {o : Outcome} → Parsed t pool line o → o ≡ refused 19 t
       go (p-table g) = absurd (g (f .form))
@@ -99,17 +107,15 @@ module _ (m : Mem) (pool : ℕ) (line b : List ℕ) where
   -- it leaves all untouched
   not-past : {a : Answer} → Refusal m (length b) pool line a → Past (numberOf a) → ⊥
   not-past (bad-table f) q = between q (omega arith) (omega arith)
-  not-past (large-pool f h) q = between q (omega arith) (omega arith)
-  not-past (short-buffer f h) q = between q (omega arith) (omega arith)
-  not-past (long-line f h r l) q = between q (omega arith) (omega arith)
-  not-past (bad-token f h r l d) q = between q (omega arith) (omega arith)
+  not-past (bad-pool f w) q = between q (omega arith) (omega arith)
+  not-past (long-line f h l) q = between q (omega arith) (omega arith)
+  not-past (bad-token f h l d) q = between q (omega arith) (omega arith)
 
   bad-or : {a : Answer} → Refusal m (length b) pool line a → (Formed m → ⊥) → numberOf a ≡ 11
   bad-or (bad-table f) d = refl
-  bad-or (large-pool f h) d = absurd (d f)
-  bad-or (short-buffer f h) d = absurd (d f)
-  bad-or (long-line f h r l) d = absurd (d f)
-  bad-or (bad-token f h r l e) d = absurd (d f)
+  bad-or (bad-pool f w) d = absurd (d f)
+  bad-or (long-line f h l) d = absurd (d f)
+  bad-or (bad-token f h l e) d = absurd (d f)
 
   pub parses-refused : {a : Answer} → Refusal m (length b) pool line a → Parses pool line m m b b (record { answer = a; links = 0 })
   parses-refused r = record {
