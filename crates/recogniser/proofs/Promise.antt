@@ -5,6 +5,7 @@ use mathlib.Core.Logic.{inl, inr, ⊎-elim}
 use mathlib.Core.List.{List, _++_}
 use Prim.Native.Nat.{ℕ, _+_, _-_, _≤_, _<_}
 use native.Mathlib.Omega.{arith}
+use borrow.Author.Tests.{leb-true, leb-false}
 use lib.Dec.{T, leb, leb→le, le→leb}
 use lib.ListN.{length, getD, take, drop}
 use lib.Seq.{length-take-le, getD-append-add, getD-drop}
@@ -59,8 +60,8 @@ pub pool-told : (room pool : ℕ) → pool ≤ 4096 → Tells (leb (numbersFor p
 pool-told room pool h = go (leb (numbersFor pool) room) refl
   where
     go : (b : Bool) → leb (numbersFor pool) room ≡ b → Tells b (PoolFits room pool)
-    go true e = (h, leb→le (numbersFor pool) room (subst T (sym e) tt))
-    go false e = λ (_, l). fails e (le→leb (numbersFor pool) room l)
+    go true e = (h, leb-true (numbersFor pool) room e)
+    go false e = λ (_, l). let k = leb-false (numbersFor pool) room e in omega arith
 
 -- ---- a refusal
 
