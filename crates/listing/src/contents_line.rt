@@ -11,13 +11,12 @@ ghost use lib.Dec.{leb};
 ghost use lib.ListN.{length};
 ghost use Rattle.laws.specs.Choice.{when};
 ghost use Rattle.text.specs.Puts.{Puts};
-ghost use Rattle.listing.specs.Listed.{PutsContents};
-ghost use Rattle.listing.specs.Walk.{listed, used, entryOf};
+ghost use Rattle.listing.specs.Walk.{listed, used, entryOf, contentsOf};
 
 // Puts the contents line of a table with so many sets.
 pub fn contents(cells: &[u8], sets: usize, out: &mut [u8]) -> usize
     requires { ⌜ (sets ≤ 255) × (sets * 128 ≤ length (now cells)) × (8192 ≤ length (now out)) ⌝ }
-    ensures { λ r. ⌜ PutsContents (now (cells .entry)) sets (now (out .entry)) (now (out .exit)) r ⌝ }
+    ensures { λ r. ⌜ Puts (now (out .entry)) 0 (now (out .exit)) r (contentsOf (now (cells .entry)) sets) ⌝ }
 {
     let start = put_byte(out, 0, b'C');
     let end = put_entries(cells, sets, out, start);

@@ -17,13 +17,12 @@ ghost use Rattle.kernels.specs.Kernel.{holds};
 ghost use Rattle.text.specs.Text.{SPACE, digit};
 ghost use Rattle.text.specs.Puts.{Puts};
 ghost use Rattle.listing.specs.Printed.{acceptText};
-ghost use Rattle.listing.specs.Listed.{PutsBody};
-ghost use Rattle.listing.specs.Walk.{listed, cellAt, itemOf, leads, transitionOf, reductionOf, expandedOf};
+ghost use Rattle.listing.specs.Walk.{listed, cellAt, itemOf, leads, transitionOf, reductionOf, expandedOf, bodyOf};
 
 // Puts the body of set s.
 pub fn body(cells: &[u8], words: &[u64], s: usize, out: &mut [u8]) -> usize
     requires { ⌜ (s < 255) × (s * 128 + 128 ≤ length (now cells)) × (s * 18 + 18 ≤ length (now words)) × (8192 ≤ length (now out)) ⌝ }
-    ensures { λ r. ⌜ PutsBody (now (cells .entry)) (now (words .entry)) s (now (out .entry)) (now (out .exit)) r ⌝ }
+    ensures { λ r. ⌜ Puts (now (out .entry)) 0 (now (out .exit)) r (bodyOf (now (cells .entry)) (now (words .entry)) s) ⌝ }
 {
     let number = put_byte(out, 0, b'S');
     let kernel = put_spaced(out, number, s);

@@ -1,13 +1,10 @@
--- `body` meets its contract: what is put one after the other is the body of set s in every laid table with these cells and words.
--- Assumes nothing.
+-- `body` meets its contract. Assumes nothing.
 use Prim.Native.Nat.{_+_, _*_}
 use native.Mathlib.Omega.{arith}
 use borrow.Author.Needs.{needs}
-use Rattle.table.specs.Layout.{mem}
-use Rattle.text.proofs.Putting.{puts-then, puts-as}
+use Rattle.text.proofs.Putting.{puts-then}
 use Rattle.listing.specs.Walk.{bodyOf}
 use Rattle.listing.proofs.Lengths.{three-digits, items-length, rest-length}
-use Rattle.listing.proofs.Seen.{body-seen}
 use Rattle.listing.proofs.set_body.body.Statement.{statement}
 use Rattle.listing.proofs.set_body.body.Tie as tie
 
@@ -37,8 +34,14 @@ same-length c = search needs
 
 returns : tie.Need-returns
 unfolding bodyOf
-returns c = λ rules l h. puts-as (body-seen (mem rules (c .before .before .before .before .before .before .before .before .before .before .before .before .before .before .before .before .before .before .before .before .before .before .before .args .cells .now) (c .before .before .before .before .before .before .before .before .before .before .before .before .before .before .before .before .before .before .before .before .before .before .before .args .words .now)) (c .before .before .before .before .before .before .before .before .before .before .before .before .before .before .before .before .before .before .before .before .before .before .before .args .s) l h)
-    (puts-then (c .before .before .before .before .before .before .before .before .before .before .before .before .before .before .before .before .before .before .put-byte .ensures) (puts-then (c .before .before .before .before .before .before .before .before .before .before .before .before .before .before .put-spaced .ensures) (puts-then (c .before .before .before .before .before .before .before .before .before .before .put-kernel .ensures) (puts-then (c .before .before .before .before .before .before .put-rest .ensures) (c .before .before .put-byte2 .ensures)))))
+returns c =
+    let put-byte2 = c .before .before .put-byte2 in
+    let put-rest = c .before .before .before .before .before .before .put-rest in
+    let put-kernel = c .before .before .before .before .before .before .before .before .before .before .put-kernel in
+    let numbered = c .before .before .before .before .before .before .before .before .before .before .before .before .before .before in
+    let put-byte = numbered .before .before .before .before .put-byte in
+    puts-then (put-byte .ensures)
+    (puts-then (numbered .put-spaced .ensures) (puts-then (put-kernel .ensures) (puts-then (put-rest .ensures) (put-byte2 .ensures))))
 
 pub body-spec : {M : Type 1} → statement M
 body-spec =

@@ -6,8 +6,8 @@ use borrow.Author.Needs.{needs}
 use Rattle.table.specs.Layout.{setsIn, mem, view}
 use Rattle.text.proofs.Putting.{puts-then, puts-as}
 use Rattle.listing.specs.Printed.{body}
-use Rattle.listing.specs.Walk.{listed, used}
-use Rattle.listing.proofs.Seen.{listing-seen}
+use Rattle.listing.specs.Walk.{listed, used, contentsOf}
+use Rattle.listing.proofs.Seen.{contents-seen, listing-seen}
 use Rattle.listing.proofs.Walks.{Put, put-none, put-turn}
 use Rattle.replies.proofs.listed.put_listing.Statement.{statement}
 use Rattle.replies.proofs.listed.put_listing.Tie as tie
@@ -44,9 +44,16 @@ same-length : tie.Need-same-length Inv-loop μ-loop
 same-length c = c .before .loop .inv .2 .same-length ∙ c .before .before .before .before .put-contents .kept .1 .1 .0
 
 returns : tie.Need-returns Inv-loop μ-loop
-returns c = let e : c .before .loop .s ≡ setsIn (c .before .before .before .before .before .before .before .before .before .before .before .args .rules .now) = omega (arith, c .loop-test .left, c .before .loop .inv .0, c .before .before .before .before .before .before .sets-in .ensures) in
-    let m = mem (c .before .before .before .before .before .before .before .before .before .before .before .args .rules .now) (c .before .before .before .before .before .before .before .before .before .before .before .args .cells .now) (c .before .before .before .before .before .before .before .before .before .before .before .args .words .now) in
-    puts-as (listing-seen m) (puts-then (c .before .before .before .before .put-contents .ensures .1 (c .before .before .before .before .before .before .before .before .before .before .before .args .rules .now) (c .before .before .before .before .before .before .before .before .before .before .before .args .words .now) (c .before .before .before .before .before .before .sets-in .ensures)) (puts-as (ap (listed (used (c .before .before .before .before .before .before .before .before .before .before .before .args .cells .now)) (body (view m)) 0) e) (c .before .loop .inv .2 .puts)))
+returns c =
+    let loop = c .before .loop in
+    let put-contents = c .before .before .before .before .put-contents in
+    let sets-in = c .before .before .before .before .before .before .sets-in in
+    let args = c .before .before .before .before .before .before .before .before .before .before .before .args in
+    let m = mem (args .rules .now) (args .cells .now) (args .words .now) in
+    let e : loop .s ≡ setsIn (args .rules .now) = omega (arith, c .loop-test .left, loop .inv .0, sets-in .ensures) in
+    let contents = puts-as (ap (contentsOf (args .cells .now)) (sets-in .ensures) ∙ contents-seen m) (put-contents .ensures .1) in
+    let bodies = puts-as (ap (listed (used (args .cells .now)) (body (view m)) 0) e) (loop .inv .2 .puts) in
+    puts-as (listing-seen m) (puts-then contents bodies)
 
 pub put-listing-spec : {M : Type 1} → statement M
 put-listing-spec =
