@@ -17,7 +17,7 @@ use Rattle.table.specs.Laid.{Within}
 use Rattle.table.proofs.Read.{set-read}
 use Rattle.table.proofs.Formed.{formed-rules}
 use Rattle.expansion.specs.Expansion.{Unexpanded}
-use Rattle.expansion.specs.Inner.{itemsIn, Ready, Closed}
+use Rattle.expansion.specs.Inner.{itemsIn, Ready, Countable, Closed}
 
 module _ (m : Mem) (s : ℕ) (𝓤 : Unexpanded m s) where
   pub closed-used : InUse (view m .sets) s
@@ -51,3 +51,8 @@ module _ (m : Mem) (s : ℕ) (c : List ℕ) (𝓒 : Closed m s c) where
         some = subst (λ c. (y : ℕ) → In y (symbols (viewRules (m .rules)) c) → moved (viewRules (m .rules)) c y ≢ []) (sym closed-is)
             (moved-some (viewRules (m .rules)) (setAt (view m .sets) s .kernel) (ruled (f .form)) (ranged (f .form) s));
       }
+
+  pub closed-countable : Countable (m .rules) (m .sets .words) c
+  closed-countable =
+      let f = 𝓒 .is .formed in
+      record { rules = formed-rules f; words = f .laid .sized .words; each = λ t l. f .laid .each-set t l .items; within = 𝓒 .held .within }

@@ -77,7 +77,7 @@ fn lead_on(rules: &[u8], cells: &mut [u8], words: &mut [u64], closure: [u64; 16]
         (kernelOn (now (rules .entry)) closure x) t ⌝ }
 {
     let kernel = closure::moved(rules, closure, x);
-    lookup::find_or_make(cells, words, table::sets_in(rules), &kernel) as u8
+    lookup::find_or_make(rules, cells, words, &kernel) as u8
 }
 
 // Writes set s's row, mark and targets, and its reductions.

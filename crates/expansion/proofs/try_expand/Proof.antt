@@ -1,6 +1,6 @@
 -- `expansion::try_expand` meets its contract. Assumes nothing.
 use native.Mathlib.Omega.{arith}
-use Rattle.expansion.proofs.Closed.{closed-words, closed-within}
+use Rattle.expansion.proofs.Closed.{closed-words, closed-within, closed-countable}
 use Rattle.table.proofs.Formed.{formed-rules}
 use Rattle.expansion.proofs.Tried.{has-room, tried-not, tried}
 use borrow.Author.Needs.{needs}
@@ -14,7 +14,10 @@ symbols-after-requires : tie.Need-symbols-after-requires
 symbols-after-requires c κs = (formed-rules (c .before .before .before .before .before .pre .formed), c .closure-of .ensures .within)
 
 missing-requires : tie.Need-missing-requires
-missing-requires c κs = ((formed-rules (c .before .before .before .before .before .before .before .pre .formed), c .before .before .closure-of .ensures .within, c .before .before .before .before .before .before .before .pre .formed .laid .sized .words), c .before .symbols-after .ensures)
+missing-requires c κs =
+    let closure-of = c .before .before .closure-of in
+    let pre = c .before .before .before .before .before .before .before .pre in
+    (closed-countable _ _ _ (record { is = pre; held = closure-of .ensures }), c .before .symbols-after .ensures)
 
 sets-in-requires : tie.Need-sets-in-requires
 sets-in-requires c κs = search needs
