@@ -15,7 +15,8 @@ use Rattle.theory.specs.Calls.{newTable, putRule, addInForm, deleteInForm, rest
 use Rattle.table.specs.Layout.{Mem, mem, sets, rulesIn, view}
 use Rattle.table.specs.Laid.{Formed}
 use Rattle.table.specs.Becomes.{Becomes, Promised}
-use Rattle.changes.specs.Change.{placeOf, StartUnexpanded, Fits}
+use Rattle.changes.specs.Change.{placeOf, Fits}
+use Rattle.changes.specs.Touch.{unexpand}
 use Rattle.checks.specs.declared.find.Found.{Found}
 use Rattle.checks.specs.Found.{addLater, DeleteFound, AddFound}
 use Rattle.generator.specs.Calls.{NewPromised, Does, LaterFree}
@@ -56,8 +57,8 @@ module _ (m n : Mem) (f : Formed m) where
   restart-kept b = kept (λ t. outcome 0 0 (restarted t)) m n 0 0 f (does refl b)
 
 -- the two steps of Restart
-pub restart-done : (rs c w c₁ w₁ : List ℕ) (n : Mem) (f : Formed (mem rs c w)) → StartUnexpanded (sets c w) (sets c₁ w₁) → Becomes (mem rs c₁ w₁) n (collected (view (mem rs c₁ w₁)))
-    → Promised restart (mem rs c w) n 0 0
+pub restart-done : (rs c w c₁ w₁ : List ℕ) (n : Mem) (f : Formed (mem rs c w)) → sets c₁ w₁ ≡ unexpand 0 (sets c w)
+    → Becomes (mem rs c₁ w₁) n (collected (view (mem rs c₁ w₁))) → Promised restart (mem rs c w) n 0 0
 restart-done rs c w c₁ w₁ n f u b = restart-kept (mem rs c w) n f (restart-becomes rs (sets c w) f (sets c₁ w₁) u n b)
 
 -- ---- Add and Delete, by what their checks have found

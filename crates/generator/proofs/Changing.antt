@@ -15,7 +15,9 @@ use Rattle.theory.proofs.FormRestarted.{start-bare}
 use Rattle.table.specs.Layout.{Mem, Sets, rulesIn, view}
 use Rattle.table.specs.Laid.{Formed, HasRow}
 use Rattle.table.specs.Becomes.{Becomes}
-use Rattle.changes.specs.Change.{placeOf, MayPut, startUnexpanded, StartUnexpanded}
+use Rattle.changes.specs.Change.{placeOf, MayPut, startUnexpanded}
+use Rattle.changes.specs.Touch.{unexpand}
+use Rattle.changes.proofs.UnexpandStart.{start-unexpanded}
 use Rattle.table.proofs.Becoming.{rules-seen, becomes-then}
 use Rattle.checks.specs.declared.find.Found.{Found}
 use Rattle.checks.specs.Find.{hasState, lowest}
@@ -61,12 +63,12 @@ module _ (rs : List ℕ) (x : Sets) (f : Formed (record { rules = rs; sets = x }
   pub start-room : HasRow 0 x
   start-room = let z = f .laid .sized in let a = z .some-sets in let b = z .cells in let c = z .words in record { cells = omega arith; words = omega arith }
 
-  module _ (y : Sets) (u : StartUnexpanded x y) where
+  module _ (y : Sets) (u : y ≡ unexpand 0 x) where
     abbrev between : Mem
     between = record { rules = rs; sets = y }
 
     step : Becomes before between (startUnexpanded (view before))
-    step = u rs (f .laid)
+    step = start-unexpanded rs x (f .laid) u
 
     pub start-formed : Formed between
     start-formed = record { laid = step .laid; form = subst InForm (sym (step .seen)) (start-bare (view before) (f .form)) }

@@ -1,6 +1,5 @@
 // The whole listing, piece by piece into one text.
 use listing::TEXT;
-ghost use mathlib.Core.Path.{_≡_};
 ghost use mathlib.Core.List.{[]};
 ghost use Prim.Native.Nat.{_+_, _*_, _≤_, _<_};
 ghost use lib.ListN.{length};
