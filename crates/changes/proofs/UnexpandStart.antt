@@ -63,4 +63,5 @@ module _ (rs : List ℕ) (x : Sets) (l : Laid (record { rules = rs; sets = x }))
   }
 
   pub start-unexpanded : {y : Sets} → y ≡ unexpand 0 x → Becomes before (record { rules = rs; sets = y }) (startUnexpanded (view before))
-  start-unexpanded e = subst (λ y. Becomes before (record { rules = rs; sets = y }) (startUnexpanded (view before))) (sym e) unexpanded-becomes
+  start-unexpanded e =
+      subst (λ y. Becomes before (record { rules = rs; sets = y }) (startUnexpanded (view before))) (sym e) unexpanded-becomes

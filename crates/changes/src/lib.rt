@@ -24,7 +24,8 @@ mod touch; // touch.rt: the sets that a change of a rule touches
 // Puts rule x at number r, current (1) or withdrawn (2), and makes unexpanded what that changes.
 pub fn put_rule(rules: &mut [u8], cells: &mut [u8], words: &mut [u64], r: usize, state: u8, x: Rule)
     requires { ⌜ MayPut (mem (now rules) (now cells) (now words)) r state x ⌝ }
-    ensures { λ _. ⌜ Becomes (mem (now (rules .entry)) (now (cells .entry)) (now (words .entry))) (mem (now (rules .exit)) (now (cells .exit)) (now (words .exit)))
+    ensures { λ _. ⌜ Becomes (mem (now (rules .entry)) (now (cells .entry)) (now (words .entry)))
+        (mem (now (rules .exit)) (now (cells .exit)) (now (words .exit)))
         (putRule (view (mem (now (rules .entry)) (now (cells .entry)) (now (words .entry)))) r (placeOf state x)) ⌝ }
 {
     let left = x.left.0 as usize;
@@ -43,7 +44,8 @@ pub fn unexpand_start(cells: &mut [u8], words: &mut [u64])
 // Makes a table of so many sets and places for rules: no rules, set 0 with an empty kernel, unexpanded.
 pub fn make(rules: &mut [u8], cells: &mut [u8], words: &mut [u64], sets: usize, places: usize)
     requires { ⌜ Fits (mem (now rules) (now cells) (now words)) sets places ⌝ }
-    ensures { λ _. ⌜ Becomes (mem (now (rules .entry)) (now (cells .entry)) (now (words .entry))) (mem (now (rules .exit)) (now (cells .exit)) (now (words .exit)))
+    ensures { λ _. ⌜ Becomes (mem (now (rules .entry)) (now (cells .entry)) (now (words .entry)))
+        (mem (now (rules .exit)) (now (cells .exit)) (now (words .exit)))
         (newTable sets places) ⌝ }
 {
     table::clear(rules, 0, table::SIZES + places * table::RULE);

@@ -128,7 +128,11 @@ module _ (rs : List ℕ) (x₀ : Sets) (c bits : List ℕ) (𝓛 : Leadable rs x
       some = room-first (viewRules rs) (itemsIn rs c) i tail ss (so-far .ready .start) room-here
 
       pub lead-aims : Aimed rs x c i
-      lead-aims = record { ready = so-far .ready; symbol = rest-in bits (viewRules rs) (itemsIn rs c) (𝓛 .symbols) from e next; room = some }
+      lead-aims = record {
+        ready = so-far .ready;
+        symbol = rest-in bits (viewRules rs) (itemsIn rs c) (𝓛 .symbols) from e next;
+        room = some;
+      }
 
       good : Good (viewRules rs) (itemsIn rs c) ss i (found ss (kernelOn rs c i))
       good = found-good (viewRules rs) (itemsIn rs c) ss i some
@@ -139,7 +143,8 @@ module _ (rs : List ℕ) (x₀ : Sets) (c bits : List ℕ) (𝓛 : Leadable rs x
 
         start : InUse (setsSeen rs x′) 0
         unfolding Good
-        start = subst (λ ss. InUse ss 0) new (λ z. so-far .ready .start (ap (λ p. p .state) (sym (good .0 .stays 0 (so-far .ready .start))) ∙ z))
+        start = subst (λ ss. InUse ss 0) new
+            (λ z. so-far .ready .start (ap (λ p. p .state) (sym (good .0 .stays 0 (so-far .ready .start))) ∙ z))
 
         nonzero : t ≢ 0
         unfolding Good
@@ -171,7 +176,8 @@ module _ (rs : List ℕ) (x₀ : Sets) (c bits : List ℕ) (𝓛 : Leadable rs x
                 within = so-far .ready .within;
                 some = so-far .ready .some;
               };
-              room = subst (λ ss. RoomIn rs c tail ss) new (room-rest (viewRules rs) (itemsIn rs c) i tail ss (so-far .ready .start) room-here);
+              room = subst (λ ss. RoomIn rs c tail ss) new
+                  (room-rest (viewRules rs) (itemsIn rs c) i tail ss (so-far .ready .start) room-here);
               sets = so-far .sets ∙ on-sets;
               cells = λ k h. 𝓐 .sets .cells k h ∙ so-far .cells k h;
               words = λ k h. 𝓐 .sets .words k h ∙ so-far .words k h;

@@ -22,7 +22,8 @@ use Rattle.table.specs.Laid.{HoldsKernel}
 use Rattle.closure.specs.Walk.{HoldsSymbols}
 use Rattle.lookup.specs.Lookup.{kernelAt, Sought}
 use Rattle.lookup.proofs.SameKernel.{kernel-set}
-use Rattle.expansion.specs.Inner.{itemsIn, symbolsIn, setsSeen, kernelOn, lackingIn, Ready, Countable, isMissing, oneIfMissing, missingIn}
+use Rattle.expansion.specs.Inner.{itemsIn, symbolsIn, setsSeen, kernelOn, lackingIn, Ready}
+use Rattle.expansion.specs.Inner.{Countable, isMissing, oneIfMissing, missingIn}
 use Rattle.expansion.proofs.Rest.{rest, least, rest-next, rest-none, rest-all, rest-in}
 
 -- ---- one kernel
@@ -83,7 +84,8 @@ module _ (rs ws c bits : List ℕ) (𝓗 : HoldsSymbols bits (viewRules rs) (ite
     count-turn {y} {k} e next one =
         let l = least bits from e next in
         let a : missingIn rs ws c (rest bits from) ≡ oneIfMissing rs ws c y + missingIn rs ws c (rest bits (y + 1)) =
-        ap (missingIn rs ws c) (rest-next bits from e next) ∙ one-more (isMissing rs ws c y) y (keep (isMissing rs ws c) (rest bits (y + 1))) in
+        ap (missingIn rs ws c) (rest-next bits from e next)
+        ∙ one-more (isMissing rs ws c y) y (keep (isMissing rs ws c) (rest bits (y + 1))) in
         record {
           inside = omega (arith, l .inside);
           small = omega (arith, l .above, so-far .small, one-small rs ws c y);

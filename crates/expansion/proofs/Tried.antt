@@ -32,12 +32,14 @@ module _ (m : Mem) (s : ℕ) (c : List ℕ) (𝓒 : Closed m s c) {lacks free S 
 
   pub tried-not : free < lacks → Tried m m s false
   tried-not h = record {
-    room = iff-same false (hasRoom (view m) s) (λ t. absurd t) (λ t. absurd (omega (arith, lacks-is, free-is, leb→le (missing (view m) s) (freeSets (view m .sets)) t)));
+    room = iff-same false (hasRoom (view m) s) (λ t. absurd t)
+        (λ t. absurd (omega (arith, lacks-is, free-is, leb→le (missing (view m) s) (freeSets (view m .sets)) t)));
     grew = λ e. absurd (false≢true e);
     stayed = λ e. refl;
   }
 
-pub tried : (m : Mem) (s : ℕ) → Unexpanded m s → T (hasRoom (view m) s) → {y : Sets} → Grew (m .rules) (m .sets) y s → Tried m (record { rules = m .rules; sets = y }) s true
+pub tried : (m : Mem) (s : ℕ) → Unexpanded m s → T (hasRoom (view m) s) → {y : Sets} → Grew (m .rules) (m .sets) y s
+    → Tried m (record { rules = m .rules; sets = y }) s true
 tried m s 𝓤 ok {y} g = record {
   room = iff-same true (hasRoom (view m) s) (λ t. ok) (λ t. tt);
   grew = λ e. becomes;

@@ -102,7 +102,8 @@ fullRow s row reductions x = record {
 -- set s is unexpanded, and the words c hold the closure of its kernel
 pub record Closed (m : Mem) (s : ℕ) (c : List ℕ) : Type 0 where
   pub is : Unexpanded m s
-  pub held : HoldsKernel (rulesIn (m .rules)) c 0 (closure (viewRules (m .rules)) (kernelSeen (rulesIn (m .rules)) (m .sets .words) (s * 18)))
+  pub held : HoldsKernel (rulesIn (m .rules)) c 0
+      (closure (viewRules (m .rules)) (kernelSeen (rulesIn (m .rules)) (m .sets .words) (s * 18)))
 
 -- .. ws hold the symbols, and there is room for the sets that it leads to
 pub record Growable (m : Mem) (s : ℕ) (c ws : List ℕ) : Type 0 where

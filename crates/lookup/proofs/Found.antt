@@ -19,7 +19,8 @@ use Rattle.kernels.proofs.Kernel.{Words, has-copy, has-write-out}
 use Rattle.theory.specs.Table.{Item, SetPlace, freeSet, unexpanded, setAt}
 use Rattle.theory.specs.Expansion.{Found, found, setWith, lowestFree}
 use Rattle.theory.proofs.Sets.{lowest-free}
-use Rattle.table.specs.Layout.{Sets, sets, setsIn, rulesIn, cell, bitOf, stateOf, kernelSeen, transitionsSeen, reductionsSeen, setSeen, viewSets}
+use Rattle.table.specs.Layout.{Sets, sets, setsIn, rulesIn, cell, bitOf}
+use Rattle.table.specs.Layout.{stateOf, kernelSeen, transitionsSeen, reductionsSeen, setSeen, viewSets}
 use Rattle.table.specs.Laid.{LaidSet, Within}
 use Rattle.table.proofs.Read.{set-read, state-free}
 use Rattle.table.proofs.Rows.{SameRow, row-seen, row-laid, kernel-cong, transitions-none, reductions-none}
@@ -105,9 +106,13 @@ module _ (S n : ℕ) (x : Sets) (key : List ℕ) (fits : Words key 0) (𝓛 : La
 
   seen-here : setSeen n y t ≡ unexpanded k
   seen-here =
-      let ker : kernelSeen n (y .words) (t * 18) ≡ k = kernel-cong n (y .words) (t * 18) key 0 (λ i h. items i (let f = 𝓛 .few-rules in omega arith)) in
-      let ts : transitionsSeen y t ≡ [] = transitions-none y t (λ j p q. cells-other (t * 128 + j) (λ e. omega arith) ∙ old .bare (omega arith) j p q) in
-      let rs : reductionsSeen n y t ≡ [] = reductions-none n y t (λ r h. bits-other (1024 + r) (omega arith) ∙ old .idle (omega arith) r (let f = 𝓛 .few-rules in omega arith)) in
+      let ker : kernelSeen n (y .words) (t * 18) ≡ k =
+      kernel-cong n (y .words) (t * 18) key 0 (λ i h. items i (let f = 𝓛 .few-rules in omega arith)) in
+      let ts : transitionsSeen y t ≡ [] =
+      transitions-none y t (λ j p q. cells-other (t * 128 + j) (λ e. omega arith) ∙ old .bare (omega arith) j p q) in
+      let rs : reductionsSeen n y t ≡ [] =
+      reductions-none n y t
+      (λ r h. let f = 𝓛 .few-rules in bits-other (1024 + r) (omega arith) ∙ old .idle (omega arith) r (omega arith)) in
       λ i. record { state = stateOf (mark i); kernel = ker i; transitions = ts i; reductions = rs i; accepts = eqb (mark i) 3 }
 
   laid-here : LaidSet n y t
@@ -136,7 +141,8 @@ module _ (S n : ℕ) (x : Sets) (key : List ℕ) (fits : Words key 0) (𝓛 : La
         | no d ↦ row-laid n s y x (row-other s d) (𝓛 .each s h)
       ];
     };
-    seen = sym (set-tab S t (setSeen n x) (setSeen n y) (unexpanded k) freeSet l seen-here (λ j h d. row-seen n j y x (𝓛 .few-rules) (row-other j d)));
+    seen = sym (set-tab S t (setSeen n x) (setSeen n y) (unexpanded k) freeSet l seen-here
+        (λ j h d. row-seen n j y x (𝓛 .few-rules) (row-other j d)));
     cells = λ i h. cells-other i (λ e. omega arith);
     words = λ i h. words-other i (inr (omega arith));
   }

@@ -41,7 +41,8 @@ pub fn find(rules: &[u8], words: &[u64], key: &[u64]) -> usize
 // Set t becomes unexpanded with the kernel in the key's first 16 words.
 fn make(cells: &mut [u8], words: &mut [u64], t: usize, key: &[u64])
     requires { ⌜ (t < 256) × (t * 128 + 128 ≤ length (now cells)) × (t * 18 + 18 ≤ length (now words)) × (16 ≤ length (now key)) ⌝ }
-    ensures { λ _. ⌜ setsOf (now (cells .exit)) (now (words .exit)) ≡ made t (now (key .entry)) (setsOf (now (cells .entry)) (now (words .entry))) ⌝ }
+    ensures { λ _. ⌜ setsOf (now (cells .exit)) (now (words .exit))
+        ≡ made t (now (key .entry)) (setsOf (now (cells .entry)) (now (words .entry))) ⌝ }
 {
     cells[t * table::ROW] = table::UNEXPANDED;
     kernels::copy(words, t * kernels::SET_WORDS, key, 0);

@@ -140,7 +140,8 @@ module _ (m : Mem) (pool : ℕ) (line b : List ℕ) where
     lent = roomy (R .roomy) ∙ is
 
     past : Past (numberOf (v .answer))
-    past = go (subst (Answered line) (sym (past-checks t (R .formed .form) pool line (R .fits)) ∙ is) (parsing-answers pool t line (R .formed .form)))
+    past = go (subst (Answered line) (sym (past-checks t (R .formed .form) pool line (R .fits)) ∙ is)
+        (parsing-answers pool t line (R .formed .form)))
       where
         go : Answered line (outcome (numberOf (v .answer)) (v .links) (view n)) → Past (numberOf (v .answer))
         go (verdict-given a z) = ⊎-elim inl (λ e. inr (inl e)) a
@@ -166,7 +167,8 @@ part-length n b h = sym (length-take-le n b h)
 pub part-roomy : (n : ℕ) (b : List ℕ) → n ≤ length b → n ≤ length (take n b)
 part-roomy n b h = omega (arith, part-length n b h)
 
-pub part-cleared : {n : ℕ} {b c : List ℕ} (y : List ℕ) → n ≤ length b → length y ≡ length (take n b) → Cleared n (y ++ drop n b) c → Cleared n b c
+pub part-cleared : {n : ℕ} {b c : List ℕ} (y : List ℕ) → n ≤ length b → length y ≡ length (take n b) → Cleared n (y ++ drop n b) c
+    → Cleared n b c
 part-cleared {n} {b} y r l z = record { low = z .low; high = λ i h. z .high i h ∙ same i h }
   where
     same : (i : ℕ) → n ≤ i → getD (y ++ drop n b) i 0 ≡ getD b i 0

@@ -14,7 +14,8 @@ ghost use Rattle.listing.specs.Walk.{used, contentsOf};
 pub fn put_listing(rules: &[u8], cells: &[u8], words: &[u64], out: &mut [u8], at: usize) -> usize
     requires { ⌜ Laid (mem (now rules) (now cells) (now words)) ⌝ }
     requires { ⌜ (length (now cells) ≤ 16384) × (at + 1056768 ≤ length (now out)) ⌝ }
-    ensures { λ r. ⌜ Puts (now (out .entry)) at (now (out .exit)) r (listing (view (mem (now (rules .entry)) (now (cells .entry)) (now (words .entry))))) ⌝ }
+    ensures { λ r. ⌜ Puts (now (out .entry)) at (now (out .exit)) r
+        (listing (view (mem (now (rules .entry)) (now (cells .entry)) (now (words .entry))))) ⌝ }
 {
     let sets = table::sets_in(rules);
     let mut end = put_contents(cells, sets, out, at);

@@ -13,6 +13,7 @@ use Rattle.kernels.specs.Kernel.{Least}
 use Rattle.theory.specs.Table.{Table}
 use Rattle.theory.specs.Parse.{Outcome}
 use Rattle.table.specs.Layout.{Mem}
+use Rattle.table.specs.Laid.{Formed}
 use Rattle.table.specs.Becomes.{Promised}
 use Rattle.table.proofs.OneOutcome.{SameLengths}
 use Rattle.form.proofs.OneOutcome as form
@@ -28,11 +29,12 @@ pub new-once : {m n n′ : Mem} {s r a a′ : ℕ} → NewPromised m n s r a →
 new-once = generator.one-outcome
 
 -- Add, Delete, Collect, Restart
-pub call-once : {call : Table → Outcome} {m n n′ : Mem} {a a′ k k′ : ℕ} → Promised call m n a k → Promised call m n′ a′ k′ → SameLengths n n′
-    → (n ≡ n′) × (a ≡ a′) × (k ≡ k′)
+pub call-once : {call : Table → Outcome} {m n n′ : Mem} {a a′ k k′ : ℕ} → Promised call m n a k → Promised call m n′ a′ k′
+    → SameLengths n n′ → (n ≡ n′) × (a ≡ a′) × (k ≡ k′)
 call-once = form.one-outcome
 
-pub parse-once : {pool : ℕ} {line : List ℕ} {m n n′ : Mem} {b c c′ : List ℕ} {a a′ k k′ : ℕ} → ParsesTo pool line m n b c a k → ParsesTo pool line m n′ b c′ a′ k′
+pub parse-once : {pool : ℕ} {line : List ℕ} {m n n′ : Mem} {b c c′ : List ℕ} {a a′ k k′ : ℕ}
+    → ParsesTo pool line m n b c a k → ParsesTo pool line m n′ b c′ a′ k′
     → SameLengths n n′ → length c ≡ length c′ → (n ≡ n′) × (c ≡ c′) × (a ≡ a′) × (k ≡ k′)
 parse-once p q same room =
     let (table, links, verdict) = recogniser.one-outcome (p .promise) (q .promise) same room in (
@@ -43,11 +45,11 @@ parse-once p q same room =
     )
 
 -- the form test
-pub formed-once : {P : Type 0} {r r′ : Bool} → Tells r P → Tells r′ P → r ≡ r′
-formed-once {r = true} {true} p q = refl
-formed-once {r = true} {false} p q = absurd (q p)
-formed-once {r = false} {true} p q = absurd (p q)
-formed-once {r = false} {false} p q = refl
+pub formed-once : (m : Mem) (r r′ : Bool) → Tells r (Formed m) → Tells r′ (Formed m) → r ≡ r′
+formed-once m true true p q = refl
+formed-once m true false p q = absurd (q p)
+formed-once m false true p q = absurd (p q)
+formed-once m false false p q = refl
 
 -- ---- what is read, and the sizes
 

@@ -22,7 +22,9 @@ sets-in-requires : tie.Need-sets-in-requires
 sets-in-requires c κs = search needs
 
 lowest-free-requires : tie.Need-lowest-free-requires
-lowest-free-requires c κs = let laid = c .before .before .before .before .before .before .before .before .before .pre .laid in omega (arith, c .sets-in .ensures, laid .cells)
+lowest-free-requires c κs =
+    let pre = c .before .before .before .before .before .before .before .before .before .pre in
+    omega (arith, c .sets-in .ensures, pre .laid .cells)
 
 make-requires : tie.Need-make-requires
 make-requires c κs =

@@ -12,7 +12,10 @@ slice-aggregate-find-or-make : tie.Need-slice-aggregate-find-or-make
 slice-aggregate-find-or-make c = search needs
 
 find-or-make-requires : tie.Need-find-or-make-requires
-find-or-make-requires c κs = aimed-asked (c .before .before .before .before .before .before .before .pre) (c .before .before .before .moved .ensures) (search needs)
+find-or-make-requires c κs =
+    let moved = c .before .before .before .moved in
+    let pre = c .before .before .before .before .before .before .before .pre in
+    aimed-asked pre (moved .ensures) (search needs)
 
 cast-result : tie.Need-cast-result
 cast-result c =
@@ -31,7 +34,8 @@ returns : tie.Need-returns
 returns c =
     let find-or-make = c .before .before .before .before .find-or-make in
     let moved = c .before .before .before .before .before .before .before .before .moved in
-    target-found (c .before .before .before .before .before .before .before .before .before .before .before .before .pre) (moved .ensures) (find-or-make .ensures)
+    let pre = c .before .before .before .before .before .before .before .before .before .before .before .before .pre in
+    target-found pre (moved .ensures) (find-or-make .ensures)
 
 pub lead-on-spec : {M : Type 1} → statement M
 lead-on-spec =

@@ -14,7 +14,13 @@ put-entries-requires : tie.Need-put-entries-requires
 put-entries-requires c κs = search needs
 
 put-byte-requires-2 : tie.Need-put-byte-requires-2
-put-byte-requires-2 c κs = omega (arith, c .before .before .before .before .before .before .before .before .before .before .before .pre, c .before .before .before .before .before .before .before .put-byte .ensures .moved, c .before .before .before .before .before .before .before .put-byte .kept .0, c .before .before .before .put-entries .ensures .moved, c .before .before .before .put-entries .kept .1 .1 .0, entries-length (c .before .before .before .before .before .before .before .before .before .before .before .args .cells .now) (c .before .before .before .before .before .before .before .before .before .before .before .args .sets) (c .before .before .before .before .before .before .before .before .before .before .before .pre .0))
+put-byte-requires-2 c κs =
+    let put-entries = c .before .before .before .put-entries in
+    let put-byte = c .before .before .before .before .before .before .before .put-byte in
+    let args = c .before .before .before .before .before .before .before .before .before .before .before .args in
+    let pre = c .before .before .before .before .before .before .before .before .before .before .before .pre in
+    let far = entries-length (args .cells .now) (args .sets) (pre .0) in
+    omega (arith, pre, put-byte .ensures .moved, put-byte .kept .0, put-entries .ensures .moved, put-entries .kept .1 .1 .0, far)
 
 same-length : tie.Need-same-length
 same-length c = search needs

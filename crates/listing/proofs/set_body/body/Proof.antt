@@ -18,16 +18,65 @@ mul-put-kernel : tie.Need-mul-put-kernel
 mul-put-kernel c = search needs
 
 put-kernel-requires : tie.Need-put-kernel-requires
-put-kernel-requires c κs = omega (arith, c .before .before .before .before .before .before .before .before .before .before .before .before .pre, c .before .before .before .before .before .before .before .put-byte .ensures .moved, c .before .before .before .before .before .before .before .put-byte .kept .0, c .before .before .before .put-spaced .ensures .moved, c .before .before .before .put-spaced .kept .0, three-digits (c .before .before .before .before .before .before .before .before .before .before .before .before .args .s) (omega (arith, c .before .before .before .before .before .before .before .before .before .before .before .before .pre)))
+put-kernel-requires c κs =
+    let put-spaced = c .before .before .before .put-spaced in
+    let put-byte = c .before .before .before .before .before .before .before .put-byte in
+    let args = c .before .before .before .before .before .before .before .before .before .before .before .before .args in
+    let pre = c .before .before .before .before .before .before .before .before .before .before .before .before .pre in
+    let digits = three-digits (args .s) (omega (arith, pre)) in
+    omega (arith, pre, put-byte .ensures .moved, put-byte .kept .0, put-spaced .ensures .moved, put-spaced .kept .0, digits)
 
 put-rest-requires : tie.Need-put-rest-requires
-put-rest-requires c κs = let far = items-length (c .before .before .before .before .before .before .before .before .before .before .before .before .before .before .before .before .args .words .now) (c .before .before .before .before .before .before .before .before .before .before .before .before .before .before .before .before .args .s * 18) 1024 (omega arith) in
-    omega (arith, c .before .before .before .before .before .before .before .before .before .before .before .before .before .before .before .before .pre, c .before .before .before .before .before .before .before .before .before .before .before .put-byte .ensures .moved, c .before .before .before .before .before .before .before .before .before .before .before .put-byte .kept .0, c .before .before .before .before .before .before .before .put-spaced .ensures .moved, c .before .before .before .before .before .before .before .put-spaced .kept .0, c .before .before .before .put-kernel .ensures .moved, c .before .before .before .put-kernel .kept .1 .1 .0, three-digits (c .before .before .before .before .before .before .before .before .before .before .before .before .before .before .before .before .args .s) (omega (arith, c .before .before .before .before .before .before .before .before .before .before .before .before .before .before .before .before .pre)), far)
+put-rest-requires c κs =
+    let put-kernel = c .before .before .before .put-kernel in
+    let put-spaced = c .before .before .before .before .before .before .before .put-spaced in
+    let put-byte = c .before .before .before .before .before .before .before .before .before .before .before .put-byte in
+    let early = c .before .before .before .before .before .before .before .before .before .before .before .before in
+    let args = early .before .before .before .before .args in
+    let pre = early .before .before .before .before .pre in
+    let far = items-length (args .words .now) (args .s * 18) 1024 (omega arith) in
+    let digits = three-digits (args .s) (omega (arith, pre)) in
+    omega (
+      arith,
+      pre,
+      put-byte .ensures .moved,
+      put-byte .kept .0,
+      put-spaced .ensures .moved,
+      put-spaced .kept .0,
+      put-kernel .ensures .moved,
+      put-kernel .kept .1 .1 .0,
+      digits,
+      far,
+    )
 
 put-byte-requires-2 : tie.Need-put-byte-requires-2
-put-byte-requires-2 c κs = let far = items-length (c .before .before .before .before .before .before .before .before .before .before .before .before .before .before .before .before .before .before .before .before .args .words .now) (c .before .before .before .before .before .before .before .before .before .before .before .before .before .before .before .before .before .before .before .before .args .s * 18) 1024 (omega arith) in
-    let more = rest-length (c .before .before .before .before .before .before .before .before .before .before .before .before .before .before .before .before .before .before .before .before .args .cells .now) (c .before .before .before .before .before .before .before .before .before .before .before .before .before .before .before .before .before .before .before .before .args .words .now) (c .before .before .before .before .before .before .before .before .before .before .before .before .before .before .before .before .before .before .before .before .args .s) (λ k. c .before .before .before .before .before .before .before .before .before .before .before .before .before .before .before .before .before .before .before .shared-slice-known .given (c .before .before .before .before .before .before .before .before .before .before .before .before .before .before .before .before .before .before .before .before .args .s * 128 + k) .fits) in
-    omega (arith, c .before .before .before .before .before .before .before .before .before .before .before .before .before .before .before .before .before .before .before .before .pre, c .before .before .before .before .before .before .before .before .before .before .before .before .before .before .before .put-byte .ensures .moved, c .before .before .before .before .before .before .before .before .before .before .before .before .before .before .before .put-byte .kept .0, c .before .before .before .before .before .before .before .before .before .before .before .put-spaced .ensures .moved, c .before .before .before .before .before .before .before .before .before .before .before .put-spaced .kept .0, c .before .before .before .before .before .before .before .put-kernel .ensures .moved, c .before .before .before .before .before .before .before .put-kernel .kept .1 .1 .0, c .before .before .before .put-rest .ensures .moved, c .before .before .before .put-rest .kept .1 .1 .1 .0, three-digits (c .before .before .before .before .before .before .before .before .before .before .before .before .before .before .before .before .before .before .before .before .args .s) (omega (arith, c .before .before .before .before .before .before .before .before .before .before .before .before .before .before .before .before .before .before .before .before .pre)), far, more)
+put-byte-requires-2 c κs =
+    let put-rest = c .before .before .before .put-rest in
+    let put-kernel = c .before .before .before .before .before .before .before .put-kernel in
+    let put-spaced = c .before .before .before .before .before .before .before .before .before .before .before .put-spaced in
+    let early = c .before .before .before .before .before .before .before .before .before .before .before .before in
+    let put-byte = early .before .before .before .put-byte in
+    let shared-slice-known = early .before .before .before .before .before .before .before .shared-slice-known in
+    let args = early .before .before .before .before .before .before .before .before .args in
+    let pre = early .before .before .before .before .before .before .before .before .pre in
+    let far = items-length (args .words .now) (args .s * 18) 1024 (omega arith) in
+    let more = rest-length (args .cells .now) (args .words .now) (args .s) (λ k. shared-slice-known .given (args .s * 128 + k) .fits) in
+    let digits = three-digits (args .s) (omega (arith, pre)) in
+    omega (
+      arith,
+      pre,
+      put-byte .ensures .moved,
+      put-byte .kept .0,
+      put-spaced .ensures .moved,
+      put-spaced .kept .0,
+      put-kernel .ensures .moved,
+      put-kernel .kept .1 .1 .0,
+      put-rest .ensures .moved,
+      put-rest .kept .1 .1 .1 .0,
+      digits,
+      far,
+      more,
+    )
 
 same-length : tie.Need-same-length
 same-length c = search needs

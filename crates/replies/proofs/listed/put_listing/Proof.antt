@@ -13,7 +13,8 @@ use Rattle.replies.proofs.listed.put_listing.Statement.{statement}
 use Rattle.replies.proofs.listed.put_listing.Tie as tie
 
 abbrev Inv-loop : tie.InvT-loop
-Inv-loop rules cells words out₀ at sets end₀ s₀ out end s = (s ≤ sets) × (end ≤ end₀ + 8192 * s) × Put (used cells) (body (view (mem rules cells words))) 0 s out₀ end₀ out end
+Inv-loop rules cells words out₀ at sets end₀ s₀ out end s =
+    (s ≤ sets) × (end ≤ end₀ + 8192 * s) × Put (used cells) (body (view (mem rules cells words))) 0 s out₀ end₀ out end
 
 abbrev μ-loop : tie.MeasureT-loop
 μ-loop rules cells words out₀ at sets end₀ s₀ out end s = sets - s
@@ -22,14 +23,40 @@ sets-in-requires : tie.Need-sets-in-requires Inv-loop μ-loop
 sets-in-requires c κs = search needs
 
 put-contents-requires : tie.Need-put-contents-requires Inv-loop μ-loop
-put-contents-requires c κs = let z = c .before .before .before .before .before .before .pre .0 .sized in (omega (arith, c .before .sets-in .ensures, z .few-sets), omega (arith, c .before .sets-in .ensures, z .cells), omega (arith, c .before .before .before .before .before .before .pre .1))
+put-contents-requires c κs =
+    let sets-in = c .before .sets-in in
+    let pre = c .before .before .before .before .before .before .pre in
+    let z = pre .0 .sized in
+    (omega (arith, sets-in .ensures, z .few-sets), omega (arith, sets-in .ensures, z .cells), omega (arith, pre .1))
 
 loop-holds : tie.Need-loop-holds Inv-loop μ-loop
 loop-holds c = (omega arith, omega arith, put-none)
 
 put-body-requires : tie.Need-put-body-requires Inv-loop μ-loop
-put-body-requires c κs = let z = c .before .before .before .before .before .before .before .before .before .before .before .before .pre .0 .sized in let w = c .before .before .loop .inv .2 in
-    (c .before .before .before .before .before .before .before .before .before .before .before .before .pre .0, (omega (arith, c .before .loop-test .taken, c .before .before .before .before .before .before .before .sets-in .ensures), omega (arith, c .before .loop-test .taken, c .before .before .before .before .before .before .before .sets-in .ensures, z .cells, c .before .before .before .before .before .before .before .before .before .before .before .before .pre .1, c .before .before .loop .inv .1, c .before .before .before .before .before .put-contents .ensures .0, w .same-length, c .before .before .before .before .before .put-contents .kept .1 .1 .0)))
+put-body-requires c κs =
+    let loop-test = c .before .loop-test in
+    let loop = c .before .before .loop in
+    let put-contents = c .before .before .before .before .before .put-contents in
+    let sets-in = c .before .before .before .before .before .before .before .sets-in in
+    let pre = c .before .before .before .before .before .before .before .before .before .before .before .before .pre in
+    let z = pre .0 .sized in
+    let w = loop .inv .2 in (
+      pre .0,
+      (
+        omega (arith, loop-test .taken, sets-in .ensures),
+        omega (
+          arith,
+          loop-test .taken,
+          sets-in .ensures,
+          z .cells,
+          pre .1,
+          loop .inv .1,
+          put-contents .ensures .0,
+          w .same-length,
+          put-contents .kept .1 .1 .0,
+        ),
+      ),
+    )
 
 add-s : tie.Need-add-s Inv-loop μ-loop
 add-s c = search needs
@@ -38,7 +65,13 @@ loop-less : tie.Need-loop-less Inv-loop μ-loop
 loop-less c = search needs
 
 loop-again : tie.Need-loop-again Inv-loop μ-loop
-loop-again c = (omega arith, omega (arith, c .before .before .put-body .ensures .0, c .before .before .before .before .before .loop .inv .1), put-turn (c .before .before .before .before .before .loop .inv .2) (c .before .before .put-body .kept .1 .1 .1 .1 .0) zero-le (c .before .before .put-body .ensures .1))
+loop-again c =
+    let put-body = c .before .before .put-body in
+    let loop = c .before .before .before .before .before .loop in (
+      omega arith,
+      omega (arith, put-body .ensures .0, loop .inv .1),
+      put-turn (loop .inv .2) (put-body .kept .1 .1 .1 .1 .0) zero-le (put-body .ensures .1),
+    )
 
 same-length : tie.Need-same-length Inv-loop μ-loop
 same-length c = c .before .loop .inv .2 .same-length ∙ c .before .before .before .before .put-contents .kept .1 .1 .0
