@@ -67,4 +67,8 @@ module _ (m : Mem) (s : ℕ) (c : List ℕ) (𝓒 : Closed m s c) where
   pub closed-countable : Countable (m .rules) (m .sets .words) c
   closed-countable =
       let f = 𝓒 .is .formed in
-      record { rules = formed-rules f; words = f .laid .sized .words; each = λ t l. f .laid .each-set t l .items; within = 𝓒 .held .within }
+      record {
+        rules = formed-rules f;
+        kernels = record { words = f .laid .sized .words; each = λ t l. f .laid .each-set t l .items };
+        within = 𝓒 .held .within;
+      }

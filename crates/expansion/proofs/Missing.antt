@@ -33,8 +33,7 @@ module _ (rs ws c : List ℕ) (y : ℕ) {key : List ℕ} (is : HoldsKernel (rule
   countable-sought 𝓒 long = record {
     sizes = let l = 𝓒 .rules .laid .long in omega arith;
     few-rules = 𝓒 .rules .laid .few-rules;
-    words = 𝓒 .words;
-    each = 𝓒 .each;
+    kernels = 𝓒 .kernels;
     key-long = omega arith;
     key-within = is .within;
   }

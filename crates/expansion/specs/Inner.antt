@@ -3,7 +3,7 @@ use mathlib.Core.Bool.{Bool}
 use mathlib.Core.Path.{_≡_}
 use mathlib.Core.Logic.{_≢_}
 use mathlib.Core.List.{List, [], List·Memᴰ as In}
-use Prim.Native.Nat.{ℕ, _+_, _*_, _≤_, _<_}
+use Prim.Native.Nat.{ℕ, _+_, _*_, _≤_}
 use lib.Dec.{T, eqb}
 use lib.ListN.{length, getD}
 use Rattle.laws.specs.Choice.{when}
@@ -16,7 +16,7 @@ use Rattle.theory.proofs.Leading.{lookup, lacking, Room}
 use Rattle.table.specs.Layout.{Mem, Sets, setsIn, rulesIn, kernelSeen, viewRules, viewSets, view}
 use Rattle.table.specs.Laid.{FormedRules, Within, HoldsKernel}
 use Rattle.closure.specs.Walk.{HoldsSymbols}
-use Rattle.lookup.specs.Lookup.{kernelAt, LaidSets, SetsBecome}
+use Rattle.lookup.specs.Lookup.{kernelAt, HoldKernels, LaidSets, SetsBecome}
 use Rattle.expansion.specs.Expansion.{Unexpanded}
 
 -- the items that the closure's words hold, the symbols after their dots, and the sets that the slices hold
@@ -56,17 +56,17 @@ pub record Ready (rs : List ℕ) (x : Sets) (c : List ℕ) : Type 0 where
 -- rules, closure and the kernels in the sets' words are laid out
 pub record Countable (rs ws c : List ℕ) : Type 0 where
   pub rules : FormedRules rs
-  pub words : setsIn rs * 18 ≤ length ws
-  pub each : (s : ℕ) → s < setsIn rs → Within (rulesIn rs) ws (s * 18)
+  pub kernels : HoldKernels rs ws
   pub within : Within (rulesIn rs) c 0
 
--- no set's words have the kernel to which the symbol y leads; 1 if so, else 0; and for how many of the symbols
+-- no set's words have the kernel to which the symbol y leads
 abbrev pub isMissing : (rs ws c : List ℕ) (y : ℕ) → Bool
 isMissing rs ws c y = eqb (kernelAt (setsIn rs) (rulesIn rs) ws (kernelOn rs c y)) 0
 
 abbrev pub oneIfMissing : (rs ws c : List ℕ) (y : ℕ) → ℕ
 oneIfMissing rs ws c y = when (isMissing rs ws c y) 1 0
 
+-- for how many of the symbols
 abbrev pub missingIn : (rs ws c ys : List ℕ) → ℕ
 missingIn rs ws c ys = length (keep (isMissing rs ws c) ys)
 

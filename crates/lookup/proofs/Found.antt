@@ -33,8 +33,7 @@ pub asked-sought : {rs : List ℕ} {x : Sets} {key : List ℕ} → Asked rs x ke
 asked-sought 𝓐 = record {
   sizes = 𝓐 .sizes;
   few-rules = 𝓐 .laid .few-rules;
-  words = 𝓐 .laid .words;
-  each = λ s l. 𝓐 .laid .each s l .items;
+  kernels = record { words = 𝓐 .laid .words; each = λ s l. 𝓐 .laid .each s l .items };
   key-long = 𝓐 .key-long;
   key-within = 𝓐 .key-within;
 }

@@ -33,16 +33,20 @@ pub record SetsBecome (S n : ℕ) (x y : Sets) (ss : List SetPlace) : Type 0 whe
 unfoldable pub kernelAt : (S n : ℕ) (ws : List ℕ) (k : List Item) → ℕ
 kernelAt S n ws k = firstIn (λ s. sameItems (kernelSeen n ws (s * 18)) k) 0 (upFrom 1 (pred S))
 
--- the words of a table's sets and the key hold kernels of the table's rule places
+-- the words of a table's sets hold kernels of the table's rule places
+pub record HoldKernels (rs ws : List ℕ) : Type 0 where
+  pub words : setsIn rs * 18 ≤ length ws
+  pub each : (s : ℕ) → s < setsIn rs → Within (rulesIn rs) ws (s * 18)
+
+-- .. and so does the key
 pub record Sought (rs ws key : List ℕ) : Type 0 where
   pub sizes : 2 ≤ length rs
   pub few-rules : rulesIn rs ≤ 128
-  pub words : setsIn rs * 18 ≤ length ws
-  pub each : (s : ℕ) → s < setsIn rs → Within (rulesIn rs) ws (s * 18)
+  pub kernels : HoldKernels rs ws
   pub key-long : 16 ≤ length key
   pub key-within : Within (rulesIn rs) key 0
 
--- .. the key's kernel is not empty, and there is room for it: some set has it, or a set is free
+-- the sets are laid out, the key's kernel is not empty, and there is room for it: some set has it, or a set is free
 pub record Asked (rs : List ℕ) (x : Sets) (key : List ℕ) : Type 0 where
   pub sizes : 2 ≤ length rs
   pub some-sets : 1 ≤ setsIn rs

@@ -21,7 +21,7 @@ returns c =
     let pre = start .pre in
     c .find .ensures ∙ ap (λ S. find (start .args .words .now) S (start .args .key .now) 0) (c .before .sets-in .ensures)
     ∙ find-is _ _ _ _ (pre .few-rules)
-    (λ s j h. words .given (s * 18 + j) .fits) (λ j h. key .given (0 + j) .fits) (pre .each) (pre .key-within)
+    (λ s j h. words .given (s * 18 + j) .fits) (λ j h. key .given (0 + j) .fits) (pre .kernels .each) (pre .key-within)
 
 pub find-spec : {M : Type 1} → statement M
 find-spec = tie.close (tie.spec sets-in-requires find-requires returns)
