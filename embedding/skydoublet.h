@@ -1,19 +1,23 @@
-/* Skydoublet's calls for C: a grammar table in memory that the caller lends, changed rule by rule, and lines parsed over it.
+/* Skydoublet's calls for C and C++: a grammar table in memory that the caller lends, changed rule by rule, and lines parsed over it.
  *
- * The library is target/staticlib/libskydoublet.a, made by `rt staticlib skydoublet` from proved code, for x86-64. It allocates
- * nothing, keeps nothing between calls and uses no other library. "01" is the document that says what each call does.
+ * The library is target/staticlib/libskydoublet.a, made by `rt staticlib skydoublet` from proved code, for x86-64 Linux. It
+ * allocates nothing, keeps nothing between calls and takes one function from outside, C's memset. "01" is the document that says
+ * what each call does.
  *
  * Memory. Each slice is lent as a pointer and the count of its elements. A table is three slices, and Parse takes a link buffer:
  *
- *   rules  2 + 10 R elements   sizes S and R; then for each rule its state (0 free, 1 current, 2 withdrawn), its left symbol, its
- *                              length and seven right places
+ *   rules  2 + 10 R elements   sizes S and R; then for each rule its state, its left symbol, its length and seven right places
  *   cells  128 S elements      for each set its mark; then its target on each of the symbols 1 to 127, 0 for none
  *   words  18 S elements       for each set the 16 words of its kernel, then 2 words with a bit for each rule that it reduces
  *   links  6 (L + 1) elements  work space; zero after every parse that got past its checks
  *
  * for S sets (1 to 255), R places for rules (1 to 128) and a pool of L links (0 to 4096). Longer slices are good; elements
- * beyond these counts are never touched. Any numbers may stand in the slices: each call but skydoublet_new tests first whether
- * they hold a table in form, and answers SKYDOUBLET_BAD_TABLE, touching nothing, if they don't.
+ * beyond these counts are never touched.
+ *
+ * Anything may stand in the slices before a call, and nothing has to be zeroed. skydoublet_new writes every element of a table
+ * and looks at none. Add, Delete, Collect, Restart and Parse test first whether the slices hold a table in form, and answer
+ * SKYDOUBLET_BAD_TABLE, with every slice untouched, if they don't. Parse doesn't mind what its link buffer holds. The calls under
+ * "Reading" test no form.
  *
  * The caller keeps three things that C can't check: a pointer is valid for its count (any non-null, aligned pointer where the
  * count is 0), the slices that one call may write overlap with no other argument, and no other thread uses them meanwhile. */
@@ -23,6 +27,16 @@
 #include <stdbool.h>
 #include <stddef.h>
 #include <stdint.h>
+
+#ifdef __cplusplus
+extern "C" {
+#endif
+
+/* The version of this header, and as one number to compare with: 100 for 0.1.0. */
+#define SKYDOUBLET_VERSION_MAJOR 0
+#define SKYDOUBLET_VERSION_MINOR 1
+#define SKYDOUBLET_VERSION_PATCH 0
+#define SKYDOUBLET_VERSION (10000 * SKYDOUBLET_VERSION_MAJOR + 100 * SKYDOUBLET_VERSION_MINOR + SKYDOUBLET_VERSION_PATCH)
 
 /* The counts above as constant expressions, for pools that are arrays. */
 #define SKYDOUBLET_RULES_FOR(places) (2 + 10 * (places))
@@ -52,13 +66,32 @@ enum skydoublet_answer {
     SKYDOUBLET_NO_LINKS = 21    /* Parse: too few links; expansions and collections made stay */
 };
 
+/* The states of a rule's number. */
+enum skydoublet_rule_state {
+    SKYDOUBLET_RULE_FREE = 0,
+    SKYDOUBLET_RULE_CURRENT = 1,
+    SKYDOUBLET_RULE_WITHDRAWN = 2 /* its number is kept until a collection */
+};
+
+/* The marks of a set. */
+enum skydoublet_set_mark {
+    SKYDOUBLET_MARK_FREE = 0,
+    SKYDOUBLET_MARK_UNEXPANDED = 1, /* kernel only */
+    SKYDOUBLET_MARK_EXPANDED = 2,
+    SKYDOUBLET_MARK_ACCEPTING = 3 /* expanded, with the accept mark */
+};
+
+/* What the walks answer at their end. */
+#define SKYDOUBLET_NO_ITEM 1024
+#define SKYDOUBLET_NO_REDUCTION 128
+
 /* How many elements each slice needs, 0 for a size that New or Parse would refuse. */
 size_t skydoublet_rules_for(size_t places);
 size_t skydoublet_cells_for(size_t sets);
 size_t skydoublet_words_for(size_t sets);
 size_t skydoublet_links_for(size_t pool);
 
-/* New: no rules, set 0 with an empty kernel, unexpanded. Answers DONE or BAD_POOL. What stood in the slices does not matter. */
+/* New: no rules, set 0 with an empty kernel, unexpanded. Answers DONE or BAD_POOL. */
 uint8_t skydoublet_new(uint8_t *rules, size_t rules_len, uint8_t *cells, size_t cells_len, uint64_t *words, size_t words_len,
                        size_t sets, size_t places);
 
@@ -80,7 +113,7 @@ uint8_t skydoublet_restart(uint8_t *rules, size_t rules_len, uint8_t *cells, siz
 
 /* Parse: whether START derives the line. Expands the table where the line needs it. Answers ACCEPT, REJECT, BAD_TABLE, BAD_POOL
  * (the pool of links), LONG_LINE, BAD_TOKEN, NO_SETS or NO_LINKS. *number becomes the number of links in the graph at the end, 0
- * on a refusal. Uses some 25 kB of stack. */
+ * on a refusal. Uses some 27 kB of stack. */
 uint8_t skydoublet_parse(uint8_t *rules, size_t rules_len, uint8_t *cells, size_t cells_len, uint64_t *words, size_t words_len,
                          uint16_t *links, size_t links_len, size_t pool, const uint8_t *line, size_t line_len, size_t *number);
 
@@ -88,7 +121,7 @@ uint8_t skydoublet_parse(uint8_t *rules, size_t rules_len, uint8_t *cells, size_
 bool skydoublet_formed(const uint8_t *rules, size_t rules_len, const uint8_t *cells, size_t cells_len, const uint64_t *words,
                        size_t words_len);
 
-/* Reading. These look at single numbers and test no form; what they say of a table is meant for one in form. */
+/* Reading. These are safe on any numbers, but test no form: they tell what stands there, whether or not it is a table. */
 
 /* Number k (0 to 9) of rule r: its state, left symbol, length, seven right places. 0 where the slice has no such number. */
 uint8_t skydoublet_rule_number(const uint8_t *rules, size_t rules_len, size_t r, size_t k);
@@ -96,17 +129,21 @@ uint8_t skydoublet_rule_number(const uint8_t *rules, size_t rules_len, size_t r,
 /* How many sets are in use, 0 where the slices are too short. */
 size_t skydoublet_sets_in_use(const uint8_t *rules, size_t rules_len, const uint8_t *cells, size_t cells_len);
 
-/* The mark of set s: 0 free, 1 unexpanded, 2 expanded, 3 expanded with the accept mark. 0 where the slice has no such set. */
+/* The mark of set s, SKYDOUBLET_MARK_FREE where the slice has no such set. */
 uint8_t skydoublet_mark(const uint8_t *cells, size_t cells_len, size_t s);
 
 /* The target of set s on symbol x, 0 for none, and where the slice has no such set or x is not 1 to 127. */
 size_t skydoublet_target(const uint8_t *cells, size_t cells_len, size_t s, size_t x);
 
-/* The lowest item of set s's kernel not below `from`: 8 r + d is rule r with dot d; 1024 where there is none, or no such set. A
- * walk asks from 0 and then from the answer + 1. */
+/* The lowest item of set s's kernel not below `from`: 8 r + d is rule r with dot d; SKYDOUBLET_NO_ITEM where there is none, or no
+ * such set. A walk asks from 0 and then from the answer + 1. */
 size_t skydoublet_next_item(const uint64_t *words, size_t words_len, size_t s, size_t from);
 
-/* The lowest rule number that set s reduces, not below `from`; 128 where there is none, or no such set. */
+/* The lowest rule number that set s reduces, not below `from`; SKYDOUBLET_NO_REDUCTION where there is none, or no such set. */
 size_t skydoublet_next_reduction(const uint64_t *words, size_t words_len, size_t s, size_t from);
+
+#ifdef __cplusplus
+}
+#endif
 
 #endif

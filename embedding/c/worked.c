@@ -1,4 +1,4 @@
-/* 01's worked lines from C: the grammar, a parse, the sets, then E4 to E6. */
+/* 01's worked lines from C: the grammar, a parse, the sets, then E4 to E6 with the rules. */
 #include "../skydoublet.h"
 
 #include <stdio.h>
@@ -26,13 +26,27 @@ static void parse(const uint8_t *line, size_t len) {
     printf("parse: answer %u, %zu links, %zu sets in use\n", answer, number, in_use);
 }
 
-static void list(size_t s) {
+static void list_rule(size_t r) {
+    uint8_t state = skydoublet_rule_number(rules, COUNT(rules), r, 0);
+    if (state == SKYDOUBLET_RULE_FREE) {
+        return;
+    }
+    printf("rule %zu, %s:", r, state == SKYDOUBLET_RULE_CURRENT ? "current" : "withdrawn");
+    printf(" %u >", skydoublet_rule_number(rules, COUNT(rules), r, 1));
+    uint8_t len = skydoublet_rule_number(rules, COUNT(rules), r, 2);
+    for (size_t place = 0; place < len; place++) {
+        printf(" %u", skydoublet_rule_number(rules, COUNT(rules), r, 3 + place));
+    }
+    printf("\n");
+}
+
+static void list_set(size_t s) {
     uint8_t mark = skydoublet_mark(cells, COUNT(cells), s);
-    if (mark == 0) {
+    if (mark == SKYDOUBLET_MARK_FREE) {
         return;
     }
     printf("set %zu, mark %u:", s, mark);
-    for (size_t i = 0; (i = skydoublet_next_item(words, COUNT(words), s, i)) < 1024; i++) {
+    for (size_t i = 0; (i = skydoublet_next_item(words, COUNT(words), s, i)) < SKYDOUBLET_NO_ITEM; i++) {
         printf(" %zu.%zu", i / 8, i % 8);
     }
     for (size_t x = 1; x < 128; x++) {
@@ -41,7 +55,7 @@ static void list(size_t s) {
             printf(" %zu>%zu", x, target);
         }
     }
-    for (size_t r = 0; (r = skydoublet_next_reduction(words, COUNT(words), s, r)) < 128; r++) {
+    for (size_t r = 0; (r = skydoublet_next_reduction(words, COUNT(words), s, r)) < SKYDOUBLET_NO_REDUCTION; r++) {
         printf(" R%zu", r);
     }
     printf("\n");
@@ -58,10 +72,13 @@ int main(void) {
     add(66, over_ground, COUNT(over_ground));
     parse(through_water, COUNT(through_water));
     for (size_t s = 0; s < SETS; s++) {
-        list(s);
+        list_set(s);
     }
     printf("delete: answer %u", skydoublet_delete(TABLE, 66, over_ground, COUNT(over_ground), &number));
     printf(", rule %zu\n", number);
+    for (size_t r = 0; r < RULES; r++) {
+        list_rule(r);
+    }
     parse(over_ground, COUNT(over_ground));
     printf("collect: answer %u\n", skydoublet_collect(TABLE));
     printf("restart: answer %u\n", skydoublet_restart(TABLE));

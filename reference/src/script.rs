@@ -53,21 +53,20 @@ impl Reader {
         };
         let answered = match command {
             Command::New(sets, rules, links) => self.new_table(sets, rules, links, out),
-            Command::Add(left, right) => self.with_table(|t, _| t.add(left, &right)).map(|n| numbers(out, &[0, n])),
-            Command::Delete(left, right) => self.with_table(|t, _| t.delete(left, &right)).map(|n| numbers(out, &[0, n])),
+            Command::Add(left, right) => self.table().and_then(|t| t.add(left, &right)).map(|n| numbers(out, &[0, n])),
+            Command::Delete(left, right) => self.table().and_then(|t| t.delete(left, &right)).map(|n| numbers(out, &[0, n])),
             Command::Parse(line) => self.parse(&line, out),
-            Command::Collect => self.with_table(|t, _| Ok(t.collect())).map(|()| self.done(out)),
-            Command::Restart => self.with_table(|t, _| Ok(t.restart())).map(|()| self.done(out)),
-            Command::List => self.with_table(|t, _| Ok(list(t, out))),
+            Command::Collect => self.table().map(Table::collect).map(|()| self.done(out)),
+            Command::Restart => self.table().map(Table::restart).map(|()| self.done(out)),
+            Command::List => self.table().map(|t| list(t, out)),
         };
         if let Err(refusal) = answered {
             numbers(out, &[refusal.number() as usize]);
         }
     }
 
-    fn with_table<A>(&mut self, call: impl FnOnce(&mut Table, usize) -> Result<A, Refusal>) -> Result<A, Refusal> {
-        let links = self.links;
-        call(self.table.as_mut().ok_or(Refusal::BadTable)?, links)
+    fn table(&mut self) -> Result<&mut Table, Refusal> {
+        self.table.as_mut().ok_or(Refusal::BadTable)
     }
 
     fn in_use(&self) -> usize {
@@ -89,7 +88,8 @@ impl Reader {
     }
 
     fn parse(&mut self, line: &[Symbol], out: &mut String) -> Result<(), Refusal> {
-        let answer = match self.with_table(|t, links| parse(t, links, line)) {
+        let links = self.links;
+        let answer = match self.table().and_then(|t| parse(t, links, line)) {
             Ok(verdict) => [if verdict.accepted { 1 } else { 2 }, verdict.links],
             Err(refusal @ (Refusal::NoSets | Refusal::NoLinks)) => [refusal.number() as usize, 0],
             Err(refusal) => return Err(refusal),

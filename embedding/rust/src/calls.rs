@@ -40,22 +40,8 @@ extern "C" {
         right_len: usize,
         number: *mut usize,
     ) -> u8;
-    pub fn skydoublet_collect(
-        rules: *mut u8,
-        rules_len: usize,
-        cells: *mut u8,
-        cells_len: usize,
-        words: *mut u64,
-        words_len: usize,
-    ) -> u8;
-    pub fn skydoublet_restart(
-        rules: *mut u8,
-        rules_len: usize,
-        cells: *mut u8,
-        cells_len: usize,
-        words: *mut u64,
-        words_len: usize,
-    ) -> u8;
+    pub fn skydoublet_collect(rules: *mut u8, rules_len: usize, cells: *mut u8, cells_len: usize, words: *mut u64, words_len: usize) -> u8;
+    pub fn skydoublet_restart(rules: *mut u8, rules_len: usize, cells: *mut u8, cells_len: usize, words: *mut u64, words_len: usize) -> u8;
     pub fn skydoublet_parse(
         rules: *mut u8,
         rules_len: usize,

@@ -92,12 +92,8 @@ fn differs(reader: &[String], script: &[u8]) -> bool {
 
 /// What the proved reader prints for a script on standard input.
 fn proved(reader: &[String], script: &[u8]) -> Vec<u8> {
-    let mut child = Command::new(&reader[0])
-        .args(&reader[1..])
-        .stdin(Stdio::piped())
-        .stdout(Stdio::piped())
-        .spawn()
-        .expect("the reader starts");
+    let mut child =
+        Command::new(&reader[0]).args(&reader[1..]).stdin(Stdio::piped()).stdout(Stdio::piped()).spawn().expect("the reader starts");
     let mut input = child.stdin.take().expect("its standard input is a pipe");
     let text = script.to_vec();
     let writer = std::thread::spawn(move || {
@@ -151,7 +147,13 @@ struct Maker {
 
 impl Maker {
     fn new(seed: u64, number: u64) -> Maker {
-        let mut maker = Maker { state: seed.wrapping_mul(0x9e37_79b9_7f4a_7c15) ^ number, terminals: 1, nonterminals: 1, rules: Vec::new(), large: false };
+        let mut maker = Maker {
+            state: seed.wrapping_mul(0x9e37_79b9_7f4a_7c15) ^ number,
+            terminals: 1,
+            nonterminals: 1,
+            rules: Vec::new(),
+            large: false,
+        };
         maker.large = maker.chance(3);
         maker.terminals = 1 + if maker.large { maker.below(63) } else { maker.below(3) };
         maker.nonterminals = 1 + if maker.large { maker.below(20) } else { maker.below(4) };

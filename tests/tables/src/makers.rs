@@ -264,8 +264,7 @@ fn short(random: &mut Random) -> Pools {
 /// range, or one that cuts off what is in use, takes it out of form.
 fn resized(random: &mut Random) -> Pools {
     let (sets, places) = (random.pick(&[1, 2, 5, 255]), random.pick(&[1, 2, 5, 128]));
-    let mut pools =
-        Pools { rules: vec![0; 2 + 10 * (places + 1)], cells: vec![0; 128 * (sets + 1)], words: vec![0; 18 * (sets + 1)] };
+    let mut pools = Pools { rules: vec![0; 2 + 10 * (places + 1)], cells: vec![0; 128 * (sets + 1)], words: vec![0; 18 * (sets + 1)] };
     pools.new_table(sets, places);
     pools = after_calls(pools, random);
     let size = &mut pools.rules[random.below(2)];
