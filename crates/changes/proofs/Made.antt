@@ -14,6 +14,7 @@ use Rattle.kernels.specs.Write.{writeWords}
 use Rattle.kernels.proofs.Write.{length-write, write-in, write-out}
 use Rattle.theory.specs.Table.{SetPlace, freeRule, freeSet, unexpanded}
 use Rattle.theory.specs.Calls.{newTable}
+use Rattle.theory.proofs.FormNew.{pools-in-range}
 use Rattle.table.specs.Layout.{sets, mem, setsIn, rulesIn, ruleNumber, cell, stateOf, ruleSeen, setSeen, viewRules, viewSets}
 use Rattle.table.specs.Becomes.{Becomes}
 use Rattle.table.proofs.RuleNumbers.{zeros-laid, zeros-seen}
@@ -49,6 +50,9 @@ module _ (rs c w : List ℕ) (s r : ℕ) (fits : Fits (mem rs c w) s r) where
   long-cells : length (writeWords c 0 (λ k. 0) (s * 128)) ≡ length c
   long-cells = length-write c 0 (λ k. 0) (s * 128)
 
+  limits : (1 ≤ s) × (s ≤ 255) × (1 ≤ r) × (r ≤ 128)
+  limits = pools-in-range s r .0 (fits .in-range)
+
   is-sets : setsIn newRules ≡ s
   is-sets =
       let h = fits .rules in
@@ -72,7 +76,7 @@ module _ (rs c w : List ℕ) (s r : ℕ) (fits : Fits (mem rs c w) s r) where
   zero-rule j k l h = rest-rules (2 + j * 10 + k) (omega arith) ∙ zero-at rs (2 + r * 10) (2 + j * 10 + k) (fits .rules) (omega arith)
 
   mark₀ : cell (sets newCells newWords) 0 0 ≡ 1
-  mark₀ = let h = fits .cells in let g = fits .some-sets in getD-set-same (writeWords c 0 (λ k. 0) (s * 128)) 0 1 0 (omega (arith, long-cells))
+  mark₀ = let h = fits .cells in let (g, z, y, x) = limits in getD-set-same (writeWords c 0 (λ k. 0) (s * 128)) 0 1 0 (omega (arith, long-cells))
 
   zero-cell : (k : ℕ) → 1 ≤ k → k < s * 128 → getD newCells k 0 ≡ 0
   zero-cell k p l = getD-set-other (writeWords c 0 (λ k. 0) (s * 128)) 0 k 1 0 (λ e. omega arith) ∙ zero-at c (s * 128) k (fits .cells) l
@@ -88,10 +92,7 @@ module _ (rs c w : List ℕ) (s r : ℕ) (fits : Fits (mem rs c w) s r) where
       let x = sets newCells newWords in
       let es = is-sets in
       let er = is-rules in
-      let f₁ = fits .some-sets in
-      let f₂ = fits .few-sets in
-      let f₃ = fits .some-places in
-      let f₄ = fits .few-places in
+      let (f₁, f₂, f₃, f₄) = limits in
       record {
         laid = record {
           sized = record {
@@ -124,10 +125,11 @@ module _ (rs c w : List ℕ) (s r : ℕ) (fits : Fits (mem rs c w) s r) where
       sets-new : viewSets (setsIn newRules) (rulesIn newRules) (sets newCells newWords) ≡ unexpanded [] ∷ replicate (pred s) freeSet
       sets-new =
           let x = sets newCells newWords in
+          let (some, z, y, few) = limits in
           let seen : (j mark : ℕ) → j < s → cell x j 0 ≡ mark → setSeen r x j ≡ record { state = stateOf mark; kernel = []; transitions = []; reductions = []; accepts = eqb mark 3 } =
-          λ j mark l e. bare-seen (bare j l) r mark (fits .few-places) e in
+          λ j mark l e. bare-seen (bare j l) r mark few e in
           ap₂ (λ (i n : ℕ). viewSets i n x) is-sets is-rules
-          ∙ first-and-rest s (setSeen r x) (unexpanded []) freeSet (fits .some-sets) (seen 0 1 (fits .some-sets) mark₀)
+          ∙ first-and-rest s (setSeen r x) (unexpanded []) freeSet some (seen 0 1 some mark₀)
           (λ j p l. seen j 0 l (zero-cell (j * 128 + 0) (omega arith) (omega arith)))
 
 pub new-made : (rs c w r₁ c₁ w₁ : List ℕ) (s r : ℕ) → Fits (mem rs c w) s r

@@ -1,13 +1,13 @@
 -- What the changes of a lent table ask and promise. Assumes nothing.
-use mathlib.Core.List.{List}
 use Prim.Native.Nat.{ℕ, _+_, _*_, _≤_, _<_}
+use lib.Dec.{T}
 use lib.ListN.{length, set}
 use Rattle.symbols.specs.Rule.{WellFormed, rightSide}
 use Rattle.symbols.specs.declared.rule.Rule.{Rule}
 use Rattle.theory.specs.Table.{RulePlace, Table, unexpanded, setAt}
-use Rattle.table.specs.Layout.{Sets, Mem, rulesIn, view}
+use Rattle.theory.specs.Calls.{poolsInRange}
+use Rattle.table.specs.Layout.{Mem, rulesIn}
 use Rattle.table.specs.Laid.{Laid}
-use Rattle.table.specs.Becomes.{Becomes}
 
 -- the rule x as a rule place, current or withdrawn
 abbrev pub placeOf : ℕ → Rule → RulePlace
@@ -25,19 +25,9 @@ pub record MayPut (m : Mem) (r state : ℕ) (x : Rule) : Type 0 where
 abbrev pub startUnexpanded : Table → Table
 startUnexpanded t = record { rules = t .rules; sets = set (t .sets) 0 (unexpanded (setAt (t .sets) 0 .kernel)) }
 
-abbrev pub withRules : List ℕ → Sets → Mem
-withRules rs x = record { rules = rs; sets = x }
-
--- the sets' numbers x become y, in which set 0 is unexpanded, whatever the rules with which they are laid out
-abbrev pub StartUnexpanded : Sets → Sets → Type 0
-StartUnexpanded x y = (rs : List ℕ) → Laid (withRules rs x) → Becomes (withRules rs x) (withRules rs y) (startUnexpanded (view (withRules rs x)))
-
 -- the sizes are in range and the slices are as long as they need
 pub record Fits (m : Mem) (sets places : ℕ) : Type 0 where
-  pub some-sets : 1 ≤ sets
-  pub few-sets : sets ≤ 255
-  pub some-places : 1 ≤ places
-  pub few-places : places ≤ 128
+  pub in-range : T (poolsInRange sets places)
   pub rules : 2 + places * 10 ≤ length (m .rules)
   pub cells : sets * 128 ≤ length (m .sets .cells)
   pub words : sets * 18 ≤ length (m .sets .words)

@@ -4,7 +4,7 @@ use mathlib.Core.Logic.{_≢_}
 use mathlib.Core.List.{List}
 use Prim.Native.Nat.{ℕ, _≤_, _<_}
 use Rattle.symbols.specs.Rule.{WellFormed}
-use Rattle.symbols.specs.Answer.{numberOf}
+use Rattle.symbols.specs.Answer.{DONE, numberOf}
 use Rattle.theory.specs.Table.{CURRENT, WITHDRAWN, RulePlace, SetPlace, Table}
 use Rattle.theory.specs.Parse.{Outcome, outcome}
 use Rattle.theory.specs.Expansion.{collected}
@@ -17,20 +17,20 @@ abbrev pub withSets : List ℕ → List SetPlace → Table
 withSets rs ss = record { rules = viewRules rs; sets = ss }
 
 pub record DeleteFound (rs : List ℕ) (x : ℕ) (w : List ℕ) (f : Found) : Type 0 where
-  pub refuses : numberOf (f .answer) ≢ 0 → (ss : List SetPlace) → deleteInForm (withSets rs ss) x w ≡ refused (numberOf (f .answer)) (withSets rs ss)
-  pub deletes : numberOf (f .answer) ≡ 0 → (ss : List SetPlace)
-      → deleteInForm (withSets rs ss) x w ≡ outcome 0 (f .number) (putRule (withSets rs ss) (f .number) (placeOf WITHDRAWN (f .rule)))
-  pub inside : numberOf (f .answer) ≡ 0 → f .number < rulesIn rs
-  pub rule : numberOf (f .answer) ≡ 0 → WellFormed (f .rule)
+  pub refuses : numberOf (f .answer) ≢ DONE → (ss : List SetPlace) → deleteInForm (withSets rs ss) x w ≡ refused (numberOf (f .answer)) (withSets rs ss)
+  pub deletes : numberOf (f .answer) ≡ DONE → (ss : List SetPlace)
+      → deleteInForm (withSets rs ss) x w ≡ outcome DONE (f .number) (putRule (withSets rs ss) (f .number) (placeOf WITHDRAWN (f .rule)))
+  pub inside : numberOf (f .answer) ≡ DONE → f .number < rulesIn rs
+  pub rule : numberOf (f .answer) ≡ DONE → WellFormed (f .rule)
 
 -- the rule is put at the lowest free number, once collection has freed some
 abbrev pub addLater : Table → RulePlace → Outcome
-addLater t p = let u = collected t in let n = lowestRule isFree (u .rules) in outcome 0 n (putRule u n p)
+addLater t p = let u = collected t in let n = lowestRule isFree (u .rules) in outcome DONE n (putRule u n p)
 
 pub record AddFound (rs : List ℕ) (x : ℕ) (w : List ℕ) (f : Found) : Type 0 where
-  pub refuses : numberOf (f .answer) ≢ 0 → (ss : List SetPlace) → addInForm (withSets rs ss) x w ≡ refused (numberOf (f .answer)) (withSets rs ss)
-  pub adds : numberOf (f .answer) ≡ 0 → f .number < rulesIn rs → (ss : List SetPlace)
-      → addInForm (withSets rs ss) x w ≡ outcome 0 (f .number) (putRule (withSets rs ss) (f .number) (placeOf CURRENT (f .rule)))
-  pub collects : numberOf (f .answer) ≡ 0 → rulesIn rs ≤ f .number → (ss : List SetPlace)
+  pub refuses : numberOf (f .answer) ≢ DONE → (ss : List SetPlace) → addInForm (withSets rs ss) x w ≡ refused (numberOf (f .answer)) (withSets rs ss)
+  pub adds : numberOf (f .answer) ≡ DONE → f .number < rulesIn rs → (ss : List SetPlace)
+      → addInForm (withSets rs ss) x w ≡ outcome DONE (f .number) (putRule (withSets rs ss) (f .number) (placeOf CURRENT (f .rule)))
+  pub collects : numberOf (f .answer) ≡ DONE → rulesIn rs ≤ f .number → (ss : List SetPlace)
       → (addInForm (withSets rs ss) x w ≡ addLater (withSets rs ss) (placeOf CURRENT (f .rule))) × (lowestRule isFree (collected (withSets rs ss) .rules) < rulesIn rs)
-  pub rule : numberOf (f .answer) ≡ 0 → WellFormed (f .rule)
+  pub rule : numberOf (f .answer) ≡ DONE → WellFormed (f .rule)

@@ -63,14 +63,16 @@ pub fn check_add(rules: &[u8], left: u8, right: &[u8]) -> Found
             rule,
         };
     }
-    if find(rules, table::CURRENT, rule) < table::rules_in(rules) {
+    let there = find(rules, table::CURRENT, rule) < table::rules_in(rules);
+    let full = is_full(rules);
+    if there {
         return Found {
             answer: Answer::There,
             number: 0,
             rule,
         };
     }
-    if is_full(rules) {
+    if full {
         return Found {
             answer: Answer::NoRules,
             number: 0,

@@ -5,3 +5,5 @@ pub mod InUse
 pub mod Made
 pub mod Obeyed
 pub mod OneOutcome
+pub mod Scripts
+pub mod NoTable

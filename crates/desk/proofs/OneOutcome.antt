@@ -47,7 +47,7 @@ lists-once {m} p q = ⊎-elim (λ f. p .listed f ∙ sym (q .listed f)) (λ g. p
 
 -- ---- a line
 
-one-state : {e f : State} → e .table ≡ f .table → e .links ≡ f .links → e .pool ≡ f .pool → e ≡ f
+pub one-state : {e f : State} → e .table ≡ f .table → e .links ≡ f .links → e .pool ≡ f .pool → e ≡ f
 one-state t b k = λ i. record { table = t i; links = b i; pool = k i }
 
 one-kept : {d e f : State} → Keeps d e → Keeps d f → e .table ≡ f .table → e ≡ f

@@ -1,3 +1,4 @@
 -- What the desk does for a line, and what it prints.
 pub mod Use
 pub mod Obeys
+pub mod Script

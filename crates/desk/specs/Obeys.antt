@@ -7,7 +7,7 @@ use mathlib.Core.List.{List}
 use Prim.Native.Nat.{ℕ}
 use lib.Dec.{leb}
 use Rattle.laws.specs.Choice.{_and_}
-use Rattle.symbols.specs.Answer.{numberOf}
+use Rattle.symbols.specs.Answer.{DONE, BAD-POOL, BAD-TABLE, MALFORMED, numberOf}
 use Rattle.theory.specs.Table.{Table, inUse}
 use Rattle.theory.specs.Parse.{Outcome}
 use Rattle.theory.specs.Calls as calls
@@ -43,9 +43,9 @@ here sets rules links = leb sets 128 and leb rules 128 and leb links 1024
 pub record Makes (sets places size : ℕ) (d e : State) (text : List ℕ) : Type 0 where
   pub answer : ℕ
   pub promised : here sets places size ≡ true → NewPromised (d .table) (e .table) sets places answer
-  pub bad-pool : here sets places size ≡ false → (answer ≡ 10) × (e .table ≡ d .table)
-  pub new-pool : answer ≡ 0 → e .pool ≡ size
-  pub old-pool : answer ≢ 0 → e .pool ≡ d .pool
+  pub bad-pool : here sets places size ≡ false → (answer ≡ BAD-POOL) × (e .table ≡ d .table)
+  pub new-pool : answer ≡ DONE → e .pool ≡ size
+  pub old-pool : answer ≢ DONE → e .pool ≡ d .pool
   pub printed : text ≡ answerLine answer
   pub links : e .links ≡ d .links
 
@@ -76,7 +76,7 @@ pub record Collects (call : Table → Outcome) (m n : Mem) (text : List ℕ) : T
 -- "`L` prints the contents line .., then one body per set"; "Collect, Restart and the listing check 11 alone."
 pub record Lists (m : Mem) (text : List ℕ) : Type 0 where
   pub listed : Formed m → text ≡ listing (view m)
-  pub no-table : (Formed m → ⊥) → text ≡ answerLine 11
+  pub no-table : (Formed m → ⊥) → text ≡ answerLine BAD-TABLE
 
 -- what a command with this meaning leaves and prints
 pub data Obeys (d e : State) (text : List ℕ) : Meaning → Type 0 where
@@ -88,7 +88,7 @@ pub data Obeys (d e : State) (text : List ℕ) : Meaning → Type 0 where
   restarts : Collects calls.restart (d .table) (e .table) text → Keeps d e → Obeys d e text restart
   lists : Lists (d .table) text → e ≡ d → Obeys d e text list
   -- "Anything malformed .. prints 22 once, and the line is skipped."
-  skips : text ≡ answerLine 22 → e ≡ d → Obeys d e text malformed
+  skips : text ≡ answerLine MALFORMED → e ≡ d → Obeys d e text malformed
 
 -- ---- a line
 

@@ -15,13 +15,13 @@ use Rattle.kernels.specs.Kernel.{Next}
 use Rattle.kernels.specs.declared.Found.{Found}
 use Rattle.kernels.specs.declared.Found.the-variants.{At, Nothing}
 use Rattle.laws.proofs.Tables.{length-tab}
-use Rattle.theory.specs.Table.{Item, Transition, SetPlace, noTransition}
+use Rattle.theory.specs.Table.{Transition, SetPlace, noTransition}
 use Rattle.theory.specs.Form.{InUse}
 use Rattle.theory.specs.Expansion.{setWith, lowestFree, found}
 use Rattle.theory.proofs.Sets.{used-inside}
 use Rattle.theory.proofs.Kernels.{symbol-range}
 use Rattle.theory.proofs.Leading.{lookup, Good, found-good, room-first, room-rest}
-use Rattle.table.specs.Layout.{Sets, setsIn, rulesIn, transition, setSeen, viewRules}
+use Rattle.table.specs.Layout.{Sets, setsIn, rulesIn, kernelSeen, transition, setSeen, viewRules}
 use Rattle.table.specs.Laid.{HoldsKernel}
 use Rattle.lookup.specs.Lookup.{Asked, Answered}
 use Rattle.expansion.specs.Inner.{itemsIn, setsSeen, kernelOn, leadingIn, RoomIn, Ready, Aimed, Leadable, ledFrom, LedTo}
@@ -60,24 +60,32 @@ pub record LeadFrom (rs : List ℕ) (x₀ : Sets) (c bits : List ℕ) (from : �
 pub aimed-above : {rs : List ℕ} {x : Sets} {c : List ℕ} {y : ℕ} → Aimed rs x c y → 1 ≤ y
 aimed-above {rs} {c = c} {y = y} 𝓐 = symbol-range (viewRules rs) (itemsIn rs c) y (𝓐 .symbol) .0
 
--- the answer on the slices is the model's, and it fits a cell; S is the table's size
-module _ {rs : List ℕ} {x : Sets} {c : List ℕ} {y : ℕ} (𝓐 : Aimed rs x c y) {S : ℕ} (size : S ≡ setsIn rs)
-    {key : List ℕ} (is : HoldsKernel (rulesIn rs) key 0 (kernelOn rs c y))
-    {x′ : Sets} {t : ℕ} (answer : (n : ℕ) (k : List Item) → Asked S n x key k → Answered S n x x′ k t) where
-  pub target-found : Answered (setsIn rs) (rulesIn rs) x x′ (kernelOn rs c y) t
-  target-found =
-      subst (λ S. Answered S (rulesIn rs) x x′ (kernelOn rs c y) t) size
-      (answer (rulesIn rs) (kernelOn rs c y)
-      (subst (λ S. Asked S (rulesIn rs) x key (kernelOn rs c y)) (sym size)
-      (record { sought = record { laid = 𝓐 .ready .sets; is = is; some = 𝓐 .ready .some y (𝓐 .symbol) }; room = 𝓐 .room })))
+-- the answer on the slices is the model's, and it fits a cell
+module _ {rs : List ℕ} {x : Sets} {c : List ℕ} {y : ℕ} (𝓐 : Aimed rs x c y)
+    {key : List ℕ} (is : HoldsKernel (rulesIn rs) key 0 (kernelOn rs c y)) where
+  pub aimed-asked : length key ≡ 16 → Asked rs x key
+  aimed-asked long = record {
+    sizes = let l = 𝓐 .ready .rules .laid .long in omega arith;
+    some-sets = 𝓐 .ready .some-sets;
+    few-sets = 𝓐 .ready .few-sets;
+    laid = 𝓐 .ready .sets;
+    key-long = omega arith;
+    key-within = is .within;
+    some = λ z. 𝓐 .ready .some y (𝓐 .symbol) (sym (is .seen) ∙ z);
+    room = λ z. 𝓐 .room (ap (setWith (setsSeen rs x)) (sym (is .seen)) ∙ z);
+  }
 
-  pub target-fits : t < 255
-  unfolding Good
-  target-fits =
-      let f = found (setsSeen rs x) (kernelOn rs c y) in
-      let good = found-good (viewRules rs) (itemsIn rs c) (setsSeen rs x) y (𝓐 .room) in
-      let l : f .at < length (f .sets) = used-inside (f .sets) (f .at) (good .1 .used) in
-      omega (arith, target-found .at, 𝓐 .ready .few-sets, good .0 .size, length-tab (setsIn rs) (setSeen (rulesIn rs) x))
+  module _ {x′ : Sets} {t : ℕ} (answer : Answered (setsIn rs) (rulesIn rs) x x′ (kernelSeen (rulesIn rs) key 0) t) where
+    pub target-found : Answered (setsIn rs) (rulesIn rs) x x′ (kernelOn rs c y) t
+    target-found = subst (λ k. Answered (setsIn rs) (rulesIn rs) x x′ k t) (is .seen) answer
+
+    pub target-fits : t < 255
+    unfolding Good
+    target-fits =
+        let f = found (setsSeen rs x) (kernelOn rs c y) in
+        let good = found-good (viewRules rs) (itemsIn rs c) (setsSeen rs x) y (𝓐 .room) in
+        let l : f .at < length (f .sets) = used-inside (f .sets) (f .at) (good .1 .used) in
+        omega (arith, target-found .at, 𝓐 .ready .few-sets, good .0 .size, length-tab (setsIn rs) (setSeen (rulesIn rs) x))
 
 -- ---- the walk
 
@@ -120,7 +128,11 @@ module _ (rs : List ℕ) (x₀ : Sets) (c bits : List ℕ) (𝓛 : Leadable rs x
       some = room-first (viewRules rs) (itemsIn rs c) i tail ss (so-far .ready .start) room-here
 
       pub lead-aims : Aimed rs x c i
-      lead-aims = record { ready = so-far .ready; symbol = rest-in bits (viewRules rs) (itemsIn rs c) (𝓛 .symbols) from e next; room = some }
+      lead-aims = record {
+        ready = so-far .ready;
+        symbol = rest-in bits (viewRules rs) (itemsIn rs c) (𝓛 .symbols) from e next;
+        room = some;
+      }
 
       good : Good (viewRules rs) (itemsIn rs c) ss i (found ss (kernelOn rs c i))
       good = found-good (viewRules rs) (itemsIn rs c) ss i some
@@ -131,7 +143,8 @@ module _ (rs : List ℕ) (x₀ : Sets) (c bits : List ℕ) (𝓛 : Leadable rs x
 
         start : InUse (setsSeen rs x′) 0
         unfolding Good
-        start = subst (λ ss. InUse ss 0) new (λ z. so-far .ready .start (ap (λ p. p .state) (sym (good .0 .stays 0 (so-far .ready .start))) ∙ z))
+        start = subst (λ ss. InUse ss 0) new
+            (λ z. so-far .ready .start (ap (λ p. p .state) (sym (good .0 .stays 0 (so-far .ready .start))) ∙ z))
 
         nonzero : t ≢ 0
         unfolding Good
@@ -163,7 +176,8 @@ module _ (rs : List ℕ) (x₀ : Sets) (c bits : List ℕ) (𝓛 : Leadable rs x
                 within = so-far .ready .within;
                 some = so-far .ready .some;
               };
-              room = subst (λ ss. RoomIn rs c tail ss) new (room-rest (viewRules rs) (itemsIn rs c) i tail ss (so-far .ready .start) room-here);
+              room = subst (λ ss. RoomIn rs c tail ss) new
+                  (room-rest (viewRules rs) (itemsIn rs c) i tail ss (so-far .ready .start) room-here);
               sets = so-far .sets ∙ on-sets;
               cells = λ k h. 𝓐 .sets .cells k h ∙ so-far .cells k h;
               words = λ k h. 𝓐 .sets .words k h ∙ so-far .words k h;

@@ -1,4 +1,5 @@
 -- What the steps of an expansion rely on, and what each leaves. c are the words of a closure. Assumes nothing.
+use mathlib.Core.Bool.{Bool}
 use mathlib.Core.Path.{_≡_}
 use mathlib.Core.Logic.{_≢_}
 use mathlib.Core.List.{List, [], List·Memᴰ as In}
@@ -6,15 +7,16 @@ use Prim.Native.Nat.{ℕ, _+_, _*_, _≤_}
 use lib.Dec.{T, eqb}
 use lib.ListN.{length, getD}
 use Rattle.laws.specs.Choice.{when}
+use Rattle.laws.specs.Lists.{keep}
 use Rattle.kernels.specs.Write.{writeWords}
 use Rattle.theory.specs.Table.{Item, SetPlace}
 use Rattle.theory.specs.Form.{InUse}
 use Rattle.theory.specs.Expansion.{closure, moved, symbols, setWith, lowestFree, Led, leading, expanded, hasRoom}
 use Rattle.theory.proofs.Leading.{lookup, lacking, Room}
-use Rattle.table.specs.Layout.{Mem, Sets, sets, setsIn, rulesIn, kernelSeen, viewRules, viewSets, view}
+use Rattle.table.specs.Layout.{Mem, Sets, setsIn, rulesIn, kernelSeen, viewRules, viewSets, view}
 use Rattle.table.specs.Laid.{FormedRules, Within, HoldsKernel}
 use Rattle.closure.specs.Walk.{HoldsSymbols}
-use Rattle.lookup.specs.Lookup.{LaidSets, SetsBecome}
+use Rattle.lookup.specs.Lookup.{kernelAt, HoldKernels, LaidSets, SetsBecome}
 use Rattle.expansion.specs.Expansion.{Unexpanded}
 
 -- the items that the closure's words hold, the symbols after their dots, and the sets that the slices hold
@@ -51,11 +53,22 @@ pub record Ready (rs : List ℕ) (x : Sets) (c : List ℕ) : Type 0 where
   pub within : Within (rulesIn rs) c 0
   pub some : (y : ℕ) → In y (symbolsIn rs c) → kernelOn rs c y ≢ []
 
--- r is 1 if no set has the kernel to which the symbol y leads, else 0
-pub record OneMissing (rs ws c : List ℕ) (y r : ℕ) : Type 0 where
-  pub small : r ≤ 1
-  pub exact : (cells : List ℕ) → Ready rs (sets cells ws) c → In y (symbolsIn rs c)
-      → r ≡ when (eqb (setWith (setsSeen rs (sets cells ws)) (kernelOn rs c y)) 0) 1 0
+-- rules, closure and the kernels in the sets' words are laid out
+pub record Countable (rs ws c : List ℕ) : Type 0 where
+  pub rules : FormedRules rs
+  pub kernels : HoldKernels rs ws
+  pub within : Within (rulesIn rs) c 0
+
+-- no set's words have the kernel to which the symbol y leads
+abbrev pub isMissing : (rs ws c : List ℕ) (y : ℕ) → Bool
+isMissing rs ws c y = eqb (kernelAt (setsIn rs) (rulesIn rs) ws (kernelOn rs c y)) 0
+
+abbrev pub oneIfMissing : (rs ws c : List ℕ) (y : ℕ) → ℕ
+oneIfMissing rs ws c y = when (isMissing rs ws c y) 1 0
+
+-- for how many of the symbols
+abbrev pub missingIn : (rs ws c ys : List ℕ) → ℕ
+missingIn rs ws c ys = length (keep (isMissing rs ws c) ys)
 
 -- there is room for the kernel to which the symbol y leads
 pub record Aimed (rs : List ℕ) (x : Sets) (c : List ℕ) (y : ℕ) : Type 0 where
@@ -89,7 +102,8 @@ fullRow s row reductions x = record {
 -- set s is unexpanded, and the words c hold the closure of its kernel
 pub record Closed (m : Mem) (s : ℕ) (c : List ℕ) : Type 0 where
   pub is : Unexpanded m s
-  pub held : HoldsKernel (rulesIn (m .rules)) c 0 (closure (viewRules (m .rules)) (kernelSeen (rulesIn (m .rules)) (m .sets .words) (s * 18)))
+  pub held : HoldsKernel (rulesIn (m .rules)) c 0
+      (closure (viewRules (m .rules)) (kernelSeen (rulesIn (m .rules)) (m .sets .words) (s * 18)))
 
 -- .. ws hold the symbols, and there is room for the sets that it leads to
 pub record Growable (m : Mem) (s : ℕ) (c ws : List ℕ) : Type 0 where

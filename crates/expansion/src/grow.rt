@@ -14,7 +14,8 @@ ghost use Rattle.expansion.specs.Inner.{kernelOn, Aimed, Leadable, LedTo
 // The closure of set s's kernel.
 pub fn closure_of(rules: &[u8], words: &[u64], s: usize) -> [u64; 16]
     requires { ⌜ FormedRules (now rules) × (s * 18 + 18 ≤ length (now words)) × Within (rulesIn (now rules)) (now words) (s * 18) ⌝ }
-    ensures { λ r. ⌜ HoldsKernel (rulesIn (now (rules .entry))) r 0 (closure (viewRules (now (rules .entry))) (kernelSeen (rulesIn (now (rules .entry))) (now (words .entry)) (s * 18))) ⌝ }
+    ensures { λ r. ⌜ HoldsKernel (rulesIn (now (rules .entry))) r 0
+        (closure (viewRules (now (rules .entry))) (kernelSeen (rulesIn (now (rules .entry))) (now (words .entry)) (s * 18))) ⌝ }
 {
     let mut kernel = [0u64; 16];
     kernels::copy(&mut kernel, 0, words, s * kernels::SET_WORDS);
@@ -31,7 +32,8 @@ pub fn grow(
     symbols: [u64; 2],
 )
     requires { ⌜ Growable (mem (now rules) (now cells) (now words)) s closure symbols ⌝ }
-    ensures { λ _. ⌜ Grew (now (rules .entry)) (setsOf (now (cells .entry)) (now (words .entry))) (setsOf (now (cells .exit)) (now (words .exit))) s ⌝ }
+    ensures { λ _. ⌜ Grew (now (rules .entry)) (setsOf (now (cells .entry)) (now (words .entry)))
+        (setsOf (now (cells .exit)) (now (words .exit))) s ⌝ }
 {
     let mut row = lead(rules, cells, words, closure, symbols);
     let done = closure::completed_items(rules, closure);
@@ -56,7 +58,8 @@ fn lead(
     symbols: [u64; 2],
 ) -> [u8; 128]
     requires { ⌜ Leadable (now rules) (setsOf (now cells) (now words)) closure symbols ⌝ }
-    ensures { λ row. ⌜ LedTo (now (rules .entry)) (setsOf (now (cells .entry)) (now (words .entry))) (setsOf (now (cells .exit)) (now (words .exit))) closure row ⌝ }
+    ensures { λ row. ⌜ LedTo (now (rules .entry)) (setsOf (now (cells .entry)) (now (words .entry)))
+        (setsOf (now (cells .exit)) (now (words .exit))) closure row ⌝ }
 {
     let mut row = [0u8; 128];
     let mut from = 1;
@@ -77,13 +80,14 @@ fn lead_on(rules: &[u8], cells: &mut [u8], words: &mut [u64], closure: [u64; 16]
         (kernelOn (now (rules .entry)) closure x) t ⌝ }
 {
     let kernel = closure::moved(rules, closure, x);
-    lookup::find_or_make(cells, words, table::sets_in(rules), &kernel) as u8
+    lookup::find_or_make(rules, cells, words, &kernel) as u8
 }
 
 // Writes set s's row, mark and targets, and its reductions.
 fn fill(cells: &mut [u8], words: &mut [u64], s: usize, row: &[u8; 128], reductions: &[u64; 2])
     requires { ⌜ (s < 255) × (s * 128 + 128 ≤ length (now cells)) × (s * 18 + 18 ≤ length (now words)) ⌝ }
-    ensures { λ _. ⌜ setsOf (now (cells .exit)) (now (words .exit)) ≡ fullRow s (now (row .entry)) (now (reductions .entry)) (setsOf (now (cells .entry)) (now (words .entry))) ⌝ }
+    ensures { λ _. ⌜ setsOf (now (cells .exit)) (now (words .exit)) ≡ fullRow s (now (row .entry)) (now (reductions .entry))
+        (setsOf (now (cells .entry)) (now (words .entry))) ⌝ }
 {
     put_row(cells, s * table::ROW, row);
     words[s * kernels::SET_WORDS + kernels::KERNEL_WORDS] = reductions[0];

@@ -15,7 +15,8 @@ use Rattle.theory.specs.Calls.{newTable, putRule, addInForm, deleteInForm, rest
 use Rattle.table.specs.Layout.{Mem, mem, sets, rulesIn, view}
 use Rattle.table.specs.Laid.{Formed}
 use Rattle.table.specs.Becomes.{Becomes, Promised}
-use Rattle.changes.specs.Change.{placeOf, StartUnexpanded, Fits}
+use Rattle.changes.specs.Change.{placeOf, Fits}
+use Rattle.changes.specs.Touch.{unexpand}
 use Rattle.checks.specs.declared.find.Found.{Found}
 use Rattle.checks.specs.Found.{addLater, DeleteFound, AddFound}
 use Rattle.generator.specs.Calls.{NewPromised, Does, LaterFree}
@@ -56,8 +57,8 @@ module _ (m n : Mem) (f : Formed m) where
   restart-kept b = kept (λ t. outcome 0 0 (restarted t)) m n 0 0 f (does refl b)
 
 -- the two steps of Restart
-pub restart-done : (rs c w c₁ w₁ : List ℕ) (n : Mem) (f : Formed (mem rs c w)) → StartUnexpanded (sets c w) (sets c₁ w₁) → Becomes (mem rs c₁ w₁) n (collected (view (mem rs c₁ w₁)))
-    → Promised restart (mem rs c w) n 0 0
+pub restart-done : (rs c w c₁ w₁ : List ℕ) (n : Mem) (f : Formed (mem rs c w)) → sets c₁ w₁ ≡ unexpand 0 (sets c w)
+    → Becomes (mem rs c₁ w₁) n (collected (view (mem rs c₁ w₁))) → Promised restart (mem rs c w) n 0 0
 restart-done rs c w c₁ w₁ n f u b = restart-kept (mem rs c w) n f (restart-becomes rs (sets c w) f (sets c₁ w₁) u n b)
 
 -- ---- Add and Delete, by what their checks have found
@@ -67,19 +68,22 @@ module _ (m : Mem) (formed : Formed m) (x : ℕ) (w : List ℕ) (f : Found) wher
     pub delete-refused : numberOf (f .answer) ≢ 0 → Does (deleteInForm (view m) x w) m m (numberOf (f .answer)) 0
     delete-refused z = does-nothing formed (d .refuses z (view m .sets))
 
-    pub delete-done : {n : Mem} → numberOf (f .answer) ≡ 0 → Becomes m n (putRule (view m) (f .number) (placeOf WITHDRAWN (f .rule))) → Does (deleteInForm (view m) x w) m n (numberOf (f .answer)) (f .number)
+    pub delete-done : {n : Mem} → numberOf (f .answer) ≡ 0 → Becomes m n (putRule (view m) (f .number) (placeOf WITHDRAWN (f .rule)))
+        → Does (deleteInForm (view m) x w) m n (numberOf (f .answer)) (f .number)
     delete-done {n} e b = subst (λ a. Does (deleteInForm (view m) x w) m n a (f .number)) (sym e) (does (d .deletes e (view m .sets)) b)
 
   module _ (d : AddFound (m .rules) x w f) where
     pub add-refused : numberOf (f .answer) ≢ 0 → Does (addInForm (view m) x w) m m (numberOf (f .answer)) 0
     add-refused z = does-nothing formed (d .refuses z (view m .sets))
 
-    pub add-done : {n : Mem} → numberOf (f .answer) ≡ 0 → f .number < rulesIn (m .rules) → Becomes m n (putRule (view m) (f .number) (placeOf CURRENT (f .rule)))
+    pub add-done : {n : Mem} → numberOf (f .answer) ≡ 0 → f .number < rulesIn (m .rules)
+        → Becomes m n (putRule (view m) (f .number) (placeOf CURRENT (f .rule)))
         → Does (addInForm (view m) x w) m n (numberOf (f .answer)) (f .number)
     add-done {n} e l b = subst (λ a. Does (addInForm (view m) x w) m n a (f .number)) (sym e) (does (d .adds e l (view m .sets)) b)
 
     pub later-free : numberOf (f .answer) ≡ 0 → rulesIn (m .rules) ≤ f .number → LaterFree m (f .rule)
     later-free e l = record { inside = d .collects e l (view m .sets) .1; rule = d .rule e }
 
-    pub add-collected : {n : Mem} {a k : ℕ} → numberOf (f .answer) ≡ 0 → rulesIn (m .rules) ≤ f .number → Does (addLater (view m) (placeOf CURRENT (f .rule))) m n a k → Does (addInForm (view m) x w) m n a k
+    pub add-collected : {n : Mem} {a k : ℕ} → numberOf (f .answer) ≡ 0 → rulesIn (m .rules) ≤ f .number
+        → Does (addLater (view m) (placeOf CURRENT (f .rule))) m n a k → Does (addInForm (view m) x w) m n a k
     add-collected {n} {a} {k} e l c = subst (λ o. Does o m n a k) (sym (d .collects e l (view m .sets) .0)) c

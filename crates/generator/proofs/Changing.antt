@@ -15,7 +15,9 @@ use Rattle.theory.proofs.FormRestarted.{start-bare}
 use Rattle.table.specs.Layout.{Mem, Sets, rulesIn, view}
 use Rattle.table.specs.Laid.{Formed, HasRow}
 use Rattle.table.specs.Becomes.{Becomes}
-use Rattle.changes.specs.Change.{placeOf, MayPut, startUnexpanded, StartUnexpanded}
+use Rattle.changes.specs.Change.{placeOf, MayPut, startUnexpanded}
+use Rattle.changes.specs.Touch.{unexpand}
+use Rattle.changes.proofs.UnexpandStart.{start-unexpanded}
 use Rattle.table.proofs.Becoming.{rules-seen, becomes-then}
 use Rattle.checks.specs.declared.find.Found.{Found}
 use Rattle.checks.specs.Find.{hasState, lowest}
@@ -35,7 +37,8 @@ module _ (m : Mem) (formed : Formed m) (x : ℕ) (w : List ℕ) (f : Found) wher
 
 -- ---- collection first
 
-module _ (m n : Mem) (x : Rule) (b : Becomes m n (collected (view m))) (free : LaterFree m x) (r : ℕ) (e : r ≡ lowest (rulesIn (n .rules)) (hasState (n .rules) 0)) where
+module _ (m n : Mem) (x : Rule) (b : Becomes m n (collected (view m))) (free : LaterFree m x) (r : ℕ)
+    (e : r ≡ lowest (rulesIn (n .rules)) (hasState (n .rules) 0)) where
   same-size : rulesIn (n .rules) ≡ rulesIn (m .rules)
   same-size = sym (rules-seen n) ∙ ap (λ t. length (t .rules)) (b .seen) ∙ collected-rules (view m) ∙ rules-seen m
 
@@ -43,7 +46,13 @@ module _ (m n : Mem) (x : Rule) (b : Becomes m n (collected (view m))) (free : L
   number = e ∙ free-is (n .rules) ∙ ap (λ (t : Table). lowestRule isFree (t .rules)) (b .seen)
 
   pub may-later : MayPut n r 1 x
-  may-later = record { laid = b .laid; inside = let l = free .inside in omega (arith, same-size, number); not-free = omega arith; in-range = omega arith; rule = free .rule }
+  may-later = record {
+    laid = b .laid;
+    inside = let l = free .inside in omega (arith, same-size, number);
+    not-free = omega arith;
+    in-range = omega arith;
+    rule = free .rule;
+  }
 
   pub later-does : (p : Mem) → Becomes n p (putRule (view n) r (placeOf CURRENT x)) → Does (addLater (view m) (placeOf CURRENT x)) m p 0 r
   later-does p c = does (ap (λ i. outcome 0 i (putRule (collected (view m)) i (placeOf CURRENT x))) (sym number))
@@ -59,14 +68,16 @@ module _ (rs : List ℕ) (x : Sets) (f : Formed (record { rules = rs; sets = x }
   before = record { rules = rs; sets = x }
 
   pub start-room : HasRow 0 x
-  start-room = let z = f .laid .sized in let a = z .some-sets in let b = z .cells in let c = z .words in record { cells = omega arith; words = omega arith }
+  start-room =
+      let z = f .laid .sized in
+      record { cells = omega (arith, z .some-sets, z .cells); words = omega (arith, z .some-sets, z .words) }
 
-  module _ (y : Sets) (u : StartUnexpanded x y) where
+  module _ (y : Sets) (u : y ≡ unexpand 0 x) where
     abbrev between : Mem
     between = record { rules = rs; sets = y }
 
     step : Becomes before between (startUnexpanded (view before))
-    step = u rs (f .laid)
+    step = start-unexpanded rs x (f .laid) u
 
     pub start-formed : Formed between
     start-formed = record { laid = step .laid; form = subst InForm (sym (step .seen)) (start-bare (view before) (f .form)) }
@@ -74,4 +85,5 @@ module _ (rs : List ℕ) (x : Sets) (f : Formed (record { rules = rs; sets = x }
     pub restart-becomes : (p : Mem) → Becomes between p (collected (view between)) → Becomes before p (restarted (view before))
     restart-becomes p b =
         let c : Becomes between p (restarted (view before)) = subst (λ t. Becomes between p (collected t)) (step .seen) b in
-        becomes-then before between p (startUnexpanded (view before)) (restarted (view before)) step c (collected-sets (startUnexpanded (view before))) (collected-rules (startUnexpanded (view before)))
+        becomes-then before between p (startUnexpanded (view before)) (restarted (view before)) step c
+        (collected-sets (startUnexpanded (view before))) (collected-rules (startUnexpanded (view before)))

@@ -11,7 +11,7 @@ use Rattle.table.proofs.OneOutcome.{SameLengths, one-memory}
 use Rattle.generator.specs.Calls.{NewPromised}
 
 -- numbers, and lists as long as each other, that cannot differ are equal
-stable : (a b : ℕ) → ((a ≡ b → ⊥) → ⊥) → a ≡ b
+pub stable : (a b : ℕ) → ((a ≡ b → ⊥) → ⊥) → a ≡ b
 stable a b h = elim (ℕ-discrete a b) [ yes e ↦ e | no d ↦ absurd (h d) ]
 
 stable-list : (a b : List ℕ) → length a ≡ length b → ((a ≡ b → ⊥) → ⊥) → a ≡ b
@@ -25,7 +25,7 @@ stable-memory a b l h =
     λ i. record { rules = r i; sets = record { cells = c i; words = w i } }
 
 -- what holds where a fact holds and where it fails cannot fail
-either : {P Q : Type 0} → (P → Q) → ((P → ⊥) → Q) → (Q → ⊥) → ⊥
+pub either : {P Q : Type 0} → (P → Q) → ((P → ⊥) → Q) → (Q → ⊥) → ⊥
 either f g d = d (g (λ p. d (f p)))
 
 pub one-outcome : {m n n′ : Mem} {s r a a′ : ℕ} → NewPromised m n s r a → NewPromised m n′ s r a′ → SameLengths n n′ → (n ≡ n′) × (a ≡ a′)

@@ -1,4 +1,3 @@
 -- What the listing is, and how it is walked.
 pub mod Printed
-pub mod Listed
 pub mod Walk

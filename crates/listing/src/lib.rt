@@ -7,11 +7,9 @@
 // Cells and words are read where they lie, as `table` lays them out. The items of a kernel and the reductions are found by
 // `kernels::next`, so a body costs what it prints, 18 words and 127 cells; the contents line costs a cell for each set.
 //
-// Nothing here tests the form: whoever calls has done it ("Collect, Restart and the listing check 11 alone"). On numbers that
-// are not laid out what is printed is still as the cells and the words have it, and no contract says what that means.
-//
-// specs/Printed.antt has what `L` prints of a table, specs/Walk.antt the same texts by the numbers, as the code walks them;
-// proofs/Seen.antt proves the two the same.
+// Nothing here tests the form: whoever calls has done it ("Collect, Restart and the listing check 11 alone"). So the contracts say
+// what is put by the cells and the words, whatever they are: specs/Walk.antt has the texts by the numbers, as the code walks them.
+// What `L` prints of a table is in specs/Printed.antt, and proofs/Seen.antt proves the two the same where the numbers are laid out.
 mod contents_line; // contents_line.rt: the contents line
 mod set_body; // set_body.rt: the body of one set
 

@@ -17,13 +17,12 @@ ghost use Rattle.kernels.specs.Kernel.{holds};
 ghost use Rattle.text.specs.Text.{SPACE, digit};
 ghost use Rattle.text.specs.Puts.{Puts};
 ghost use Rattle.listing.specs.Printed.{acceptText};
-ghost use Rattle.listing.specs.Listed.{PutsBody};
-ghost use Rattle.listing.specs.Walk.{listed, cellAt, itemOf, leads, transitionOf, reductionOf, expandedOf};
+ghost use Rattle.listing.specs.Walk.{listed, cellAt, itemOf, leads, transitionOf, reductionOf, expandedOf, bodyOf};
 
 // Puts the body of set s.
 pub fn body(cells: &[u8], words: &[u64], s: usize, out: &mut [u8]) -> usize
     requires { ⌜ (s < 255) × (s * 128 + 128 ≤ length (now cells)) × (s * 18 + 18 ≤ length (now words)) × (8192 ≤ length (now out)) ⌝ }
-    ensures { λ r. ⌜ PutsBody (now (cells .entry)) (now (words .entry)) s (now (out .entry)) (now (out .exit)) r ⌝ }
+    ensures { λ r. ⌜ Puts (now (out .entry)) 0 (now (out .exit)) r (bodyOf (now (cells .entry)) (now (words .entry)) s) ⌝ }
 {
     let number = put_byte(out, 0, b'S');
     let kernel = put_spaced(out, number, s);
@@ -44,7 +43,8 @@ fn put_letter(out: &mut [u8], at: usize, letter: u8) -> usize
 // Puts K and the items of the kernel whose words begin at `at`.
 fn put_kernel(words: &[u64], at: usize, out: &mut [u8], start: usize) -> usize
     requires { ⌜ (at + 16 ≤ length (now words)) × (start + 6160 ≤ length (now out)) ⌝ }
-    ensures { λ r. ⌜ Puts (now (out .entry)) start (now (out .exit)) r (SPACE ∷ 75 ∷ listed (holds (now (words .entry)) at) itemOf 0 1024) ⌝ }
+    ensures { λ r. ⌜ Puts (now (out .entry)) start (now (out .exit)) r
+        (SPACE ∷ 75 ∷ listed (holds (now (words .entry)) at) itemOf 0 1024) ⌝ }
 {
     let mut end = put_letter(out, start, b'K');
     let mut from: usize = 0;
@@ -70,7 +70,8 @@ fn put_item(out: &mut [u8], at: usize, item: usize) -> usize
 // Puts what an expanded set has beside its kernel, and nothing for an unexpanded one.
 fn put_rest(cells: &[u8], words: &[u64], s: usize, out: &mut [u8], at: usize) -> usize
     requires { ⌜ (s < 255) × (s * 128 + 128 ≤ length (now cells)) × (s * 18 + 18 ≤ length (now words)) × (at + 1560 ≤ length (now out)) ⌝ }
-    ensures { λ r. ⌜ Puts (now (out .entry)) at (now (out .exit)) r (when (leb 2 (cellAt (now (cells .entry)) s 0)) (expandedOf (now (cells .entry)) (now (words .entry)) s) []) ⌝ }
+    ensures { λ r. ⌜ Puts (now (out .entry)) at (now (out .exit)) r
+        (when (leb 2 (cellAt (now (cells .entry)) s 0)) (expandedOf (now (cells .entry)) (now (words .entry)) s) []) ⌝ }
 {
     let m = mark(cells, s);
     if m < EXPANDED {
@@ -89,7 +90,8 @@ fn put_rest(cells: &[u8], words: &[u64], s: usize, out: &mut [u8], at: usize) ->
 // Puts T and the transitions of set s.
 fn put_transitions(cells: &[u8], s: usize, out: &mut [u8], start: usize) -> usize
     requires { ⌜ (s < 255) × (s * 128 + 128 ≤ length (now cells)) × (start + 1030 ≤ length (now out)) ⌝ }
-    ensures { λ r. ⌜ Puts (now (out .entry)) start (now (out .exit)) r (SPACE ∷ 84 ∷ listed (leads (now (cells .entry)) s) (transitionOf (now (cells .entry)) s) 1 128) ⌝ }
+    ensures { λ r. ⌜ Puts (now (out .entry)) start (now (out .exit)) r
+        (SPACE ∷ 84 ∷ listed (leads (now (cells .entry)) s) (transitionOf (now (cells .entry)) s) 1 128) ⌝ }
 {
     let mut end = put_letter(out, start, b'T');
     let mut x: usize = 1;
@@ -103,7 +105,8 @@ fn put_transitions(cells: &[u8], s: usize, out: &mut [u8], start: usize) -> usiz
 // Puts symbol>target, if the set has a target on the symbol.
 fn put_transition(cells: &[u8], s: usize, x: usize, out: &mut [u8], at: usize) -> usize
     requires { ⌜ (s < 255) × (x < 128) × (s * 128 + 128 ≤ length (now cells)) × (at + 10 ≤ length (now out)) ⌝ }
-    ensures { λ r. ⌜ Puts (now (out .entry)) at (now (out .exit)) r (when (leads (now (cells .entry)) s x) (transitionOf (now (cells .entry)) s x) []) ⌝ }
+    ensures { λ r. ⌜ Puts (now (out .entry)) at (now (out .exit)) r
+        (when (leads (now (cells .entry)) s x) (transitionOf (now (cells .entry)) s x) []) ⌝ }
 {
     let t = target(cells, s, x);
     if t == 0 {
@@ -117,7 +120,8 @@ fn put_transition(cells: &[u8], s: usize, x: usize, out: &mut [u8], at: usize) -
 // Puts R and the rules whose bits stand in the two words from `at` on.
 fn put_reductions(words: &[u64], at: usize, out: &mut [u8], start: usize) -> usize
     requires { ⌜ (at + 2 ≤ length (now words)) × (start + 520 ≤ length (now out)) ⌝ }
-    ensures { λ r. ⌜ Puts (now (out .entry)) start (now (out .exit)) r (SPACE ∷ 82 ∷ listed (holds (now (words .entry)) at) reductionOf 0 128) ⌝ }
+    ensures { λ r. ⌜ Puts (now (out .entry)) start (now (out .exit)) r
+        (SPACE ∷ 82 ∷ listed (holds (now (words .entry)) at) reductionOf 0 128) ⌝ }
 {
     let mut end = put_letter(out, start, b'R');
     let mut from: usize = 0;

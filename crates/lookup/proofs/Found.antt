@@ -16,24 +16,36 @@ use Rattle.laws.proofs.Chosen.{set-tab}
 use Rattle.kernels.specs.Kernel.{has}
 use Rattle.kernels.proofs.Write.{length-write, write-in, write-out}
 use Rattle.kernels.proofs.Kernel.{Words, has-copy, has-write-out}
-use Rattle.theory.specs.Table.{Item, freeSet, unexpanded, setAt}
+use Rattle.theory.specs.Table.{Item, SetPlace, freeSet, unexpanded, setAt}
 use Rattle.theory.specs.Expansion.{Found, found, setWith, lowestFree}
 use Rattle.theory.proofs.Sets.{lowest-free}
-use Rattle.table.specs.Layout.{Sets, sets, cell, bitOf, stateOf, kernelSeen, transitionsSeen, reductionsSeen, setSeen, viewSets}
-use Rattle.table.specs.Laid.{LaidSet}
+use Rattle.table.specs.Layout.{Sets, sets, setsIn, rulesIn, cell, bitOf}
+use Rattle.table.specs.Layout.{stateOf, kernelSeen, transitionsSeen, reductionsSeen, setSeen, viewSets}
+use Rattle.table.specs.Laid.{LaidSet, Within}
 use Rattle.table.proofs.Read.{set-read, state-free}
 use Rattle.table.proofs.Rows.{SameRow, row-seen, row-laid, kernel-cong, transitions-none, reductions-none}
 use Rattle.collection.specs.Room.{InTables}
-use Rattle.lookup.specs.Lookup.{made, SetsBecome, Asked, Answered}
+use Rattle.lookup.specs.Lookup.{made, kernelAt, LaidSets, SetsBecome, Sought, Asked, Answered}
+use Rattle.lookup.proofs.SameKernel.{kernel-set}
 
--- the lowest free set of the slices is the model's, and stands in the pool
-lowest-is : {S r : ℕ} (n : ℕ) (x : Sets) → InTables S (x .cells) (λ t. lowestFree (t .sets)) r → r ≡ lowestFree (viewSets S n x)
-lowest-is {S} n x h = h .exact (S ∷ n ∷ []) (x .words) refl
+-- what is asked of a search
+pub asked-sought : {rs : List ℕ} {x : Sets} {key : List ℕ} → Asked rs x key → Sought rs (x .words) key
+asked-sought 𝓐 = record {
+  sizes = 𝓐 .sizes;
+  few-rules = 𝓐 .laid .few-rules;
+  kernels = record { words = 𝓐 .laid .words; each = λ s l. 𝓐 .laid .each s l .items };
+  key-long = 𝓐 .key-long;
+  key-within = 𝓐 .key-within;
+}
 
-pub lowest-inside : {S r : ℕ} {cells : List ℕ} → InTables S cells (λ t. lowestFree (t .sets)) r → 1 ≤ S → r < S
-lowest-inside {S} {cells = cells} h some =
+-- the lowest free set of the slices is the model's, and stands in the pool; T is the table's size
+lowest-is : {S T r : ℕ} (n : ℕ) (x : Sets) → T ≡ S → InTables T (x .cells) (λ t. lowestFree (t .sets)) r → r ≡ lowestFree (viewSets S n x)
+lowest-is {S} n x e h = h .exact (S ∷ n ∷ []) (x .words) (sym e)
+
+pub lowest-inside : {S T r : ℕ} {cells : List ℕ} → T ≡ S → InTables T cells (λ t. lowestFree (t .sets)) r → 1 ≤ S → r < S
+lowest-inside {S} {cells = cells} size h some =
     let ss = viewSets S 0 (sets cells []) in
-    let e = lowest-is 0 (sets cells []) h in
+    let e = lowest-is 0 (sets cells []) size h in
     elim (ℕ-discrete (lowestFree ss) 0) [
       | yes z ↦ omega arith
       | no d ↦ omega (arith, lowest-free ss d .1, length-tab S (setSeen 0 (sets cells [])))
@@ -41,15 +53,19 @@ lowest-inside {S} {cells = cells} h some =
 
 -- ---- set t made
 
-module _ (S n : ℕ) (x : Sets) (key : List ℕ) (k : List Item) (fits : Words key 0) (𝓐 : Asked S n x key k) (t : ℕ) (l : t < S) (free : cell x t 0 ≡ 0) where
+module _ (S n : ℕ) (x : Sets) (key : List ℕ) (fits : Words key 0) (𝓛 : LaidSets S n x) (within : Within n key 0)
+    (t : ℕ) (l : t < S) (free : cell x t 0 ≡ 0) where
+  abbrev k : List Item
+  k = kernelSeen n key 0
+
   y : Sets
   y = made t key x
 
   cells-long : t * 128 + 128 ≤ length (x .cells)
-  cells-long = let a = 𝓐 .sought .laid .cells in omega arith
+  cells-long = let a = 𝓛 .cells in omega arith
 
   words-long : t * 18 + 18 ≤ length (x .words)
-  words-long = let a = 𝓐 .sought .laid .words in omega arith
+  words-long = let a = 𝓛 .words in omega arith
 
   -- its mark is 1, its other cells are as they were
   mark : cell y t 0 ≡ 1
@@ -85,13 +101,17 @@ module _ (S n : ℕ) (x : Sets) (key : List ℕ) (k : List Item) (fits : Words k
   }
 
   old : LaidSet n x t
-  old = 𝓐 .sought .laid .each t l
+  old = 𝓛 .each t l
 
   seen-here : setSeen n y t ≡ unexpanded k
   seen-here =
-      let ker : kernelSeen n (y .words) (t * 18) ≡ k = kernel-cong n (y .words) (t * 18) key 0 (λ i h. items i (let f = 𝓐 .sought .laid .few-rules in omega arith)) ∙ 𝓐 .sought .is .seen in
-      let ts : transitionsSeen y t ≡ [] = transitions-none y t (λ j p q. cells-other (t * 128 + j) (λ e. omega arith) ∙ old .bare (omega arith) j p q) in
-      let rs : reductionsSeen n y t ≡ [] = reductions-none n y t (λ r h. bits-other (1024 + r) (omega arith) ∙ old .idle (omega arith) r (let f = 𝓐 .sought .laid .few-rules in omega arith)) in
+      let ker : kernelSeen n (y .words) (t * 18) ≡ k =
+      kernel-cong n (y .words) (t * 18) key 0 (λ i h. items i (let f = 𝓛 .few-rules in omega arith)) in
+      let ts : transitionsSeen y t ≡ [] =
+      transitions-none y t (λ j p q. cells-other (t * 128 + j) (λ e. omega arith) ∙ old .bare (omega arith) j p q) in
+      let rs : reductionsSeen n y t ≡ [] =
+      reductions-none n y t
+      (λ r h. let f = 𝓛 .few-rules in bits-other (1024 + r) (omega arith) ∙ old .idle (omega arith) r (omega arith)) in
       λ i. record { state = stateOf (mark i); kernel = ker i; transitions = ts i; reductions = rs i; accepts = eqb (mark i) 3 }
 
   laid-here : LaidSet n y t
@@ -101,7 +121,7 @@ module _ (S n : ℕ) (x : Sets) (key : List ℕ) (k : List Item) (fits : Words k
       | yes p ↦ subst (λ w. w < 2 ^ 64) (sym (word-in j p)) (fits j p)
       | no p ↦ subst (λ w. w < 2 ^ 64) (sym (words-other (t * 18 + j) (inr (omega arith)))) (old .words j h)
     ];
-    items = λ i g h. items i h ∙ 𝓐 .sought .is .within i g h;
+    items = λ i g h. items i h ∙ within i g h;
     reductions = λ r g h. bits-other (1024 + r) (omega arith) ∙ old .reductions r g h;
     bare = λ z j p q. cells-other (t * 128 + j) (λ e. omega arith) ∙ old .bare (omega arith) j p q;
     idle = λ z r h. bits-other (1024 + r) (omega arith) ∙ old .idle (omega arith) r h;
@@ -112,53 +132,71 @@ module _ (S n : ℕ) (x : Sets) (key : List ℕ) (k : List Item) (fits : Words k
   unfolding y
   made-sets = record {
     laid = record {
-      few-rules = 𝓐 .sought .laid .few-rules;
-      cells = unfold made in subst (λ q. S * 128 ≤ q) (sym (length-set (x .cells) (t * 128) 1)) (𝓐 .sought .laid .cells);
-      words = unfold made in subst (λ q. S * 18 ≤ q) (sym (length-write (x .words) (t * 18) (λ k. getD key (0 + k) 0) 16)) (𝓐 .sought .laid .words);
+      few-rules = 𝓛 .few-rules;
+      cells = unfold made in subst (λ q. S * 128 ≤ q) (sym (length-set (x .cells) (t * 128) 1)) (𝓛 .cells);
+      words = unfold made in subst (λ q. S * 18 ≤ q) (sym (length-write (x .words) (t * 18) (λ k. getD key (0 + k) 0) 16)) (𝓛 .words);
       each = λ s h. elim (ℕ-discrete s t) [
         | yes e ↦ subst (λ s. LaidSet n y s) (sym e) laid-here
-        | no d ↦ row-laid n s y x (row-other s d) (𝓐 .sought .laid .each s h)
+        | no d ↦ row-laid n s y x (row-other s d) (𝓛 .each s h)
       ];
     };
-    seen = sym (set-tab S t (setSeen n x) (setSeen n y) (unexpanded k) freeSet l seen-here (λ j h d. row-seen n j y x (𝓐 .sought .laid .few-rules) (row-other j d)));
+    seen = sym (set-tab S t (setSeen n x) (setSeen n y) (unexpanded k) freeSet l seen-here
+        (λ j h d. row-seen n j y x (𝓛 .few-rules) (row-other j d)));
     cells = λ i h. cells-other i (λ e. omega arith);
     words = λ i h. words-other i (inr (omega arith));
   }
 
 -- ---- the answer
 
-module _ (S n : ℕ) (x : Sets) (key : List ℕ) (k : List Item) (fits : Words key 0) (𝓐 : Asked S n x key k) where
-  pub answer-old : (r : ℕ) → r ≡ setWith (viewSets S n x) k → r ≢ 0 → Answered S n x x k r
+module _ (rs : List ℕ) (x : Sets) (key : List ℕ) (fits : Words key 0) (𝓐 : Asked rs x key) where
+  abbrev S : ℕ
+  S = setsIn rs
+
+  abbrev n : ℕ
+  n = rulesIn rs
+
+  abbrev ss : List SetPlace
+  ss = viewSets S n x
+
+  abbrev wanted : List Item
+  wanted = kernelSeen n key 0
+
+  abbrev found-there : Found
+  found-there = record { sets = ss; at = setWith ss wanted }
+
+  abbrev found-made : Found
+  found-made = record { sets = set ss (lowestFree ss) (unexpanded wanted); at = lowestFree ss }
+
+  is-set : kernelAt S n (x .words) wanted ≡ setWith ss wanted
+  is-set = kernel-set S n x wanted (𝓐 .laid) (𝓐 .some)
+
+  pub answer-old : (r : ℕ) → r ≡ kernelAt S n (x .words) wanted → r ≢ 0 → Answered S n x x wanted r
   unfolding when
   answer-old r e d =
-      let o : setWith (viewSets S n x) k ≡ r = sym e in
-      let b : ltb 0 (setWith (viewSets S n x) k) ≡ true = lt-ltb 0 (setWith (viewSets S n x) k) (omega arith) in
-      let f : found (viewSets S n x) k ≡ record { sets = viewSets S n x; at = setWith (viewSets S n x) k } = ap (λ b. when b (record { sets = viewSets S n x; at = setWith (viewSets S n x) k }) new) b in
+      let o : setWith ss wanted ≡ r = sym (e ∙ is-set) in
+      let b : ltb 0 (setWith ss wanted) ≡ true = lt-ltb 0 (setWith ss wanted) (omega arith) in
+      let f : found ss wanted ≡ found-there = ap (λ b. when b found-there found-made) b in
       record {
         at = sym o ∙ ap (λ a. a .at) (sym f);
-        sets = record { laid = 𝓐 .sought .laid; seen = ap (λ a. a .sets) (sym f); cells = λ i h. refl; words = λ i h. refl };
+        sets = record { laid = 𝓐 .laid; seen = ap (λ a. a .sets) (sym f); cells = λ i h. refl; words = λ i h. refl };
       }
-    where
-      new : Found
-      new = record { sets = set (viewSets S n x) (lowestFree (viewSets S n x)) (unexpanded k); at = lowestFree (viewSets S n x) }
 
-  answer-new : (r : ℕ) → 0 ≡ setWith (viewSets S n x) k → InTables S (x .cells) (λ t. lowestFree (t .sets)) r → Answered S n x (made r key x) k r
+  answer-new : (r : ℕ) → setWith ss wanted ≡ 0 → r ≡ lowestFree ss → Answered S n x (made r key x) wanted r
   unfolding when
-  answer-new r e q =
-      let o : setWith (viewSets S n x) k ≡ 0 = sym e in
-      let b : ltb 0 (setWith (viewSets S n x) k) ≡ false = le-ltb 0 (setWith (viewSets S n x) k) (omega arith) in
-      let r₁ : r ≡ lowestFree (viewSets S n x) = lowest-is n x q in
-      let (free, inside) = lowest-free (viewSets S n x) (𝓐 .room o) in
+  answer-new r o r₁ =
+      let b : ltb 0 (setWith ss wanted) ≡ false = le-ltb 0 (setWith ss wanted) (omega arith) in
+      let (free, inside) = lowest-free ss (𝓐 .room o) in
       let l : r < S = omega (arith, length-tab S (setSeen n x)) in
-      let zero-mark : cell x r 0 ≡ 0 = state-free (cell x r 0) (ap (λ p. p .state) (sym (set-read S n x r l)) ∙ ap (λ s. setAt (viewSets S n x) s .state) r₁ ∙ free) in
-      let f : found (viewSets S n x) k ≡ new = ap (λ b. when b (record { sets = viewSets S n x; at = setWith (viewSets S n x) k }) new) b in
+      let state : stateOf (cell x r 0) ≡ 0 = ap (λ p. p .state) (sym (set-read S n x r l)) ∙ ap (λ s. setAt ss s .state) r₁ ∙ free in
+      let f : found ss wanted ≡ found-made = ap (λ b. when b found-there found-made) b in
+      let sets-are = ap (λ t. set ss t (unexpanded wanted)) r₁ ∙ ap (λ a. a .sets) (sym f) in
       record {
         at = r₁ ∙ ap (λ a. a .at) (sym f);
-        sets = subst (λ ss. SetsBecome S n x (made r key x) ss) (ap (λ t. set (viewSets S n x) t (unexpanded k)) r₁ ∙ ap (λ a. a .sets) (sym f)) (made-sets S n x key k fits 𝓐 r l zero-mark);
+        sets = subst (λ ss. SetsBecome S n x (made r key x) ss) sets-are
+            (made-sets S n x key fits (𝓐 .laid) (𝓐 .key-within) r l (state-free (cell x r 0) state));
       }
-    where
-      new : Found
-      new = record { sets = set (viewSets S n x) (lowestFree (viewSets S n x)) (unexpanded k); at = lowestFree (viewSets S n x) }
 
-  pub answer-made : {o r : ℕ} {y : Sets} → o ≡ setWith (viewSets S n x) k → o ≡ 0 → InTables S (x .cells) (λ t. lowestFree (t .sets)) r → y ≡ made r key x → Answered S n x y k r
-  answer-made {r = r} e z q h = subst (λ y. Answered S n x y k r) (sym h) (answer-new r (sym z ∙ e) q)
+  pub answer-made : {o T r : ℕ} {y : Sets} → o ≡ kernelAt S n (x .words) wanted → o ≡ 0 → T ≡ S
+      → InTables T (x .cells) (λ t. lowestFree (t .sets)) r → y ≡ made r key x → Answered S n x y wanted r
+  answer-made {r = r} e z size q h =
+      subst (λ y. Answered S n x y wanted r) (sym h) (answer-new r (sym (e ∙ is-set) ∙ z) (lowest-is n x size q))

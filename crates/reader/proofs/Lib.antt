@@ -4,3 +4,5 @@ pub mod Newlines
 pub mod Waiting
 pub mod Running
 pub mod Rest
+pub mod Cut
+pub mod Turns

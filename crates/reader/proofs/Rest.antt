@@ -1,14 +1,14 @@
--- What is kept of a line's beginning is moved to the front, and a line that is cut means the same. Assumes nothing.
+-- What is kept of a text is moved to the front. Assumes nothing.
 use mathlib.Core.Path.{_≡_, refl, sym, ap, _∙_}
 use mathlib.Core.List.{List, [], _∷_, _++_}
-use Prim.Native.Nat.{ℕ, _+_, _<_}
+use Prim.Native.Nat.{ℕ, _+_, _-_, _≤_, _<_}
+use native.Mathlib.Decide.{decLe}
 use native.Mathlib.Numerals.{add-one}
 use native.Mathlib.Omega.{arith}
-use lib.ListN.{length, getD, set, take, drop, length-take, length-append, length-drop, length-set}
-use lib.Seq.{take-suc, take-suc-set, drop-set-lt, drop-drop, getD-drop}
-use Rattle.script.specs.Command.{Means}
-use Rattle.script.specs.Command.Meaning.{malformed}
-use Rattle.script.proofs.Meaning.{long-malformed}
+use lib.ListN.{length, getD, set, take, drop, length-take, length-drop, length-set}
+use lib.Seq.{take-all, take-suc, take-suc-set, drop-set-lt, drop-drop, getD-drop}
+use Rattle.reader.specs.Lines.{KeptRest}
+use Rattle.reader.proofs.Running.{part}
 
 -- i bytes from `at` on of the text `before` are moved to the front, and what stands beyond them is as it was
 pub record Moved (before : List ℕ) (at i : ℕ) (after : List ℕ) : Type 0 where
@@ -35,9 +35,17 @@ moved-more {before} {after} {at} {i} w h =
       beyond = drop-set-lt (i + 1) after i v (omega arith) ∙ sym (drop-drop 1 i after) ∙ ap (drop 1) (w .beyond) ∙ drop-drop 1 i before;
     }
 
--- whatever follows, a beginning that is too long makes the line malformed, and so does what is kept of it
-pub cut-malformed : (start more : List ℕ) → 1282 < length start → Means (start ++ more) malformed × Means (take 1283 start ++ more) malformed
-cut-malformed start more h = (
-  long-malformed (start ++ more) (omega (arith, length-append start more)),
-  long-malformed (take 1283 start ++ more) (omega (arith, length-append (take 1283 start) more, length-take 1283 start)),
-)
+-- what was moved is what stood there, cut
+pub kept-is : {before after : List ℕ} {at end r : ℕ} → KeptRest before at end after r → at ≤ end → end ≤ length before
+    → take r after ≡ take 1283 (drop at (take end before))
+kept-is {before} {after} {at} {end} {r} k h fits =
+    let left = drop at (take end before) in
+    let size : length left ≡ end - at = omega (arith, length-drop at (take end before), length-take end before) in
+    let moved : take r after ≡ take r left = k .front ∙ part before end at r (elim (decLe (end - at) 1283) [
+      | yes s ↦ omega (arith, k .all s)
+      | no s ↦ omega (arith, k .few)
+    ]) in
+    moved ∙ elim (decLe (end - at) 1283) [
+      | yes s ↦ take-all r left (omega (arith, k .all s)) ∙ sym (take-all 1283 left (omega arith))
+      | no s ↦ ap (λ i. take i left) (k .cut (omega arith))
+    ]

@@ -6,7 +6,7 @@ use native.Mathlib.Decide.{ℕ-discrete, decLe}
 use native.Mathlib.Omega.{arith}
 use lib.ListN.{length, take, length-take, length-append}
 use Rattle.text.specs.Puts.{Puts}
-use Rattle.reader.specs.Lines.{Ready, Waits}
+use Rattle.reader.specs.Output.{Ready, Waits}
 
 pub waits-none : (out : List ℕ) (used : ℕ) → used ≤ length out → Waits out used [] out used
 waits-none out used h = record { inside = h; gone = []; in-order = sym (append-nil (take used out)); full = λ z. absurd (omega arith) }

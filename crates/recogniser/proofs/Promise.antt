@@ -1,12 +1,15 @@
 -- What Parse promises follows from its checks and from the steps that it did. Assumes nothing.
+use mathlib.Core.Bool.{Bool, true, false}
 use mathlib.Core.Path.{_≡_, refl, sym, _∙_, ap, subst}
 use mathlib.Core.Logic.{inl, inr, ⊎-elim}
 use mathlib.Core.List.{List, _++_}
 use Prim.Native.Nat.{ℕ, _+_, _-_, _≤_, _<_}
 use native.Mathlib.Omega.{arith}
+use borrow.Author.Tests.{leb-true, leb-false}
 use lib.Dec.{T, leb, leb→le, le→leb}
 use lib.ListN.{length, getD, take, drop}
 use lib.Seq.{length-take-le, getD-append-add, getD-drop}
+use Rattle.laws.specs.Choice.{Tells}
 use Rattle.laws.proofs.Choice.{when-cases}
 use Rattle.symbols.specs.declared.answer.Answer.{Answer}
 use Rattle.symbols.specs.Answer.{numberOf}
@@ -31,8 +34,8 @@ use Rattle.positions.specs.Reading.{Readable, Reads}
 use Rattle.positions.proofs.Kept.{kept-none}
 use Rattle.recogniser.specs.declared.refusals.Checked.the-variants.{Passed, Refused}
 use Rattle.recogniser.specs.Parse.{lentParse, Past, Parses}
-use Rattle.recogniser.specs.Check.{Refusal, Checks}
-use Rattle.recogniser.specs.Check.Refusal.{bad-table, large-pool, short-buffer, long-line, bad-token}
+use Rattle.recogniser.specs.Check.{PoolFits, Refusal, Checks}
+use Rattle.recogniser.specs.Check.Refusal.{bad-table, bad-pool, long-line, bad-token}
 
 between : {a : ℕ} → Past a → 2 < a → a < 20 → ⊥
 between q h k = ⊎-elim (λ e. omega arith) (⊎-elim (λ e. omega arith) (⊎-elim (λ e. omega arith) (λ e. omega arith))) q
@@ -52,6 +55,14 @@ module _ {m : Mem} {room pool : ℕ} {line : List ℕ} where
       the : {a′ : Answer} → Refused a ≡ Refused a′ → a ≡ a′
       the e = cc
 
+-- the test of the pool, once its size is in range
+pub pool-told : (room pool : ℕ) → pool ≤ 4096 → Tells (leb (numbersFor pool) room) (PoolFits room pool)
+pool-told room pool h = go (leb (numbersFor pool) room) refl
+  where
+    go : (b : Bool) → leb (numbersFor pool) room ≡ b → Tells b (PoolFits room pool)
+    go true e = (h, leb-true (numbersFor pool) room e)
+    go false e = λ (_, l). let k = leb-false (numbersFor pool) room e in omega arith
+
 -- ---- a refusal
 
 module _ (m : Mem) (pool : ℕ) (line b : List ℕ) where
@@ -67,19 +78,17 @@ module _ (m : Mem) (pool : ℕ) (line b : List ℕ) where
 
   lent-refused : {a : Answer} → Refusal m (length b) pool line a → Formed m → lentParse b pool line t ≡ refused (numberOf a) t
   lent-refused (bad-table f) 𝓕 = absurd (f 𝓕)
-  lent-refused (large-pool f h) 𝓕 =
-      when-cases (λ o. o ≡ refused 10 t) (leb (numbersFor pool) (length b)) (λ e. go (parsed t pool line)) (λ e. passed (f .form) (refused 10 t))
-    where
-      go : {o : Outcome} → Parsed t pool line o → o ≡ refused 10 t
-      go (p-table g) = absurd (g (f .form))
-      go (p-pool g k) = refl
-      go (p-line g k n) = absurd (omega arith)
-      go (p-token g k n d) = absurd (omega arith)
-      go (p-read g k n d) = absurd (omega arith)
-  lent-refused (short-buffer f h) 𝓕 =
+  lent-refused (bad-pool f w) 𝓕 =
       when-cases (λ o. o ≡ refused 10 t) (leb (numbersFor pool) (length b))
-      (λ e. absurd (let k = leb→le (numbersFor pool) (length b) (subst T (sym e) tt) in omega arith)) (λ e. passed (f .form) (refused 10 t))
-  lent-refused (long-line f h r l) 𝓕 = roomy r ∙ go (parsed t pool line)
+      (λ e. go (leb→le (numbersFor pool) (length b) (subst T (sym e) tt)) (parsed t pool line)) (λ e. passed (f .form) (refused 10 t))
+    where
+      go : {o : Outcome} → numbersFor pool ≤ length b → Parsed t pool line o → o ≡ refused 10 t
+      go h (p-table g) = absurd (g (f .form))
+      go h (p-pool g k) = refl
+      go h (p-line g k n) = absurd (w (omega arith, h))
+      go h (p-token g k n d) = absurd (w (omega arith, h))
+      go h (p-read g k n d) = absurd (w (omega arith, h))
+  lent-refused (long-line f (h, r) l) 𝓕 = roomy r ∙ go (parsed t pool line)
     where
       go : {o : Outcome} → Parsed t pool line o → o ≡ refused 18 t
       go (p-table g) = absurd (g (f .form))
@@ -87,7 +96,7 @@ module _ (m : Mem) (pool : ℕ) (line b : List ℕ) where
       go (p-line g k n) = refl
       go (p-token g k n d) = absurd (omega arith)
       go (p-read g k n d) = absurd (omega arith)
-  lent-refused (bad-token f h r l d) 𝓕 = roomy r ∙ go (parsed t pool line)
+  lent-refused (bad-token f (h, r) l d) 𝓕 = roomy r ∙ go (parsed t pool line)
     where
       go : {o : Outcome} → Parsed t pool line o → o ≡ refused 19 t
       go (p-table g) = absurd (g (f .form))
@@ -99,17 +108,15 @@ module _ (m : Mem) (pool : ℕ) (line b : List ℕ) where
   -- it leaves all untouched
   not-past : {a : Answer} → Refusal m (length b) pool line a → Past (numberOf a) → ⊥
   not-past (bad-table f) q = between q (omega arith) (omega arith)
-  not-past (large-pool f h) q = between q (omega arith) (omega arith)
-  not-past (short-buffer f h) q = between q (omega arith) (omega arith)
-  not-past (long-line f h r l) q = between q (omega arith) (omega arith)
-  not-past (bad-token f h r l d) q = between q (omega arith) (omega arith)
+  not-past (bad-pool f w) q = between q (omega arith) (omega arith)
+  not-past (long-line f h l) q = between q (omega arith) (omega arith)
+  not-past (bad-token f h l d) q = between q (omega arith) (omega arith)
 
   bad-or : {a : Answer} → Refusal m (length b) pool line a → (Formed m → ⊥) → numberOf a ≡ 11
   bad-or (bad-table f) d = refl
-  bad-or (large-pool f h) d = absurd (d f)
-  bad-or (short-buffer f h) d = absurd (d f)
-  bad-or (long-line f h r l) d = absurd (d f)
-  bad-or (bad-token f h r l e) d = absurd (d f)
+  bad-or (bad-pool f w) d = absurd (d f)
+  bad-or (long-line f h l) d = absurd (d f)
+  bad-or (bad-token f h l e) d = absurd (d f)
 
   pub parses-refused : {a : Answer} → Refusal m (length b) pool line a → Parses pool line m m b b (record { answer = a; links = 0 })
   parses-refused r = record {
@@ -133,7 +140,8 @@ module _ (m : Mem) (pool : ℕ) (line b : List ℕ) where
     lent = roomy (R .roomy) ∙ is
 
     past : Past (numberOf (v .answer))
-    past = go (subst (Answered line) (sym (past-checks t (R .formed .form) pool line (R .fits)) ∙ is) (parsing-answers pool t line (R .formed .form)))
+    past = go (subst (Answered line) (sym (past-checks t (R .formed .form) pool line (R .fits)) ∙ is)
+        (parsing-answers pool t line (R .formed .form)))
       where
         go : Answered line (outcome (numberOf (v .answer)) (v .links) (view n)) → Past (numberOf (v .answer))
         go (verdict-given a z) = ⊎-elim inl (λ e. inr (inl e)) a
@@ -159,7 +167,8 @@ part-length n b h = sym (length-take-le n b h)
 pub part-roomy : (n : ℕ) (b : List ℕ) → n ≤ length b → n ≤ length (take n b)
 part-roomy n b h = omega (arith, part-length n b h)
 
-pub part-cleared : {n : ℕ} {b c : List ℕ} (y : List ℕ) → n ≤ length b → length y ≡ length (take n b) → Cleared n (y ++ drop n b) c → Cleared n b c
+pub part-cleared : {n : ℕ} {b c : List ℕ} (y : List ℕ) → n ≤ length b → length y ≡ length (take n b) → Cleared n (y ++ drop n b) c
+    → Cleared n b c
 part-cleared {n} {b} y r l z = record { low = z .low; high = λ i h. z .high i h ∙ same i h }
   where
     same : (i : ℕ) → n ≤ i → getD (y ++ drop n b) i 0 ≡ getD b i 0

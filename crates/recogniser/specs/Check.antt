@@ -14,13 +14,16 @@ use Rattle.positions.specs.Reading.{Readable}
 use Rattle.recogniser.specs.declared.refusals.Checked.{Checked}
 use Rattle.recogniser.specs.declared.refusals.Checked.the-variants.{Passed, Refused}
 
+-- "BAD-POOL: .. Parse's link size outside its range, or the slices lent for them too short": it is neither, over so many numbers
+abbrev pub PoolFits : (room pool : ℕ) → Type 0
+PoolFits room pool = (pool ≤ 4096) × (numbersFor pool ≤ room)
+
 -- why a parse is refused, over a link buffer of so many numbers
 pub data Refusal (m : Mem) (room pool : ℕ) (line : List ℕ) : Answer → Type 0 where
   bad-table : (Formed m → ⊥) → Refusal m room pool line BadTable
-  large-pool : Formed m → 4096 < pool → Refusal m room pool line BadPool
-  short-buffer : Formed m → room < numbersFor pool → Refusal m room pool line BadPool
-  long-line : Formed m → pool ≤ 4096 → numbersFor pool ≤ room → 255 < length line → Refusal m room pool line LongLine
-  bad-token : Formed m → pool ≤ 4096 → numbersFor pool ≤ room → length line ≤ 255 → (T (allTokens line) → ⊥) → Refusal m room pool line BadToken
+  bad-pool : Formed m → (PoolFits room pool → ⊥) → Refusal m room pool line BadPool
+  long-line : Formed m → PoolFits room pool → 255 < length line → Refusal m room pool line LongLine
+  bad-token : Formed m → PoolFits room pool → length line ≤ 255 → (T (allTokens line) → ⊥) → Refusal m room pool line BadToken
 
 pub record Checks (m : Mem) (room pool : ℕ) (line : List ℕ) (r : Checked) : Type 0 where
   pub passed : r ≡ Passed → Readable pool line m room

@@ -6,7 +6,7 @@ use Prim.Native.Nat.{ℕ}
 use lib.Dec.{leb}
 use lib.ListN.{length}
 use Rattle.laws.specs.Choice.{when}
-use Rattle.symbols.specs.Answer.{numberOf}
+use Rattle.symbols.specs.Answer.{ACCEPT, REJECT, BAD-POOL, NO-SETS, NO-LINKS, numberOf}
 use Rattle.theory.specs.Table.{Table}
 use Rattle.theory.specs.Parse.{Outcome}
 use Rattle.theory.specs.Calls.{refused, checked, parse}
@@ -18,11 +18,11 @@ use Rattle.positions.specs.declared.Verdict.{Verdict}
 
 -- Parse over a lent link buffer: "BAD-POOL: .. Parse's link size outside its range, or the slices lent for them too short"
 abbrev pub lentParse : List ℕ → ℕ → List ℕ → Table → Outcome
-lentParse b pool line t = when (leb (numbersFor pool) (length b)) (parse t pool line) (checked t (refused 10 t))
+lentParse b pool line t = when (leb (numbersFor pool) (length b)) (parse t pool line) (checked t (refused BAD-POOL t))
 
--- the answers of a parse that got past its checks: accept, reject, NO-SETS, NO-LINKS
+-- the answers of a parse that got past its checks
 abbrev pub Past : ℕ → Type 0
-Past a = (a ≡ 1) ⊎ ((a ≡ 2) ⊎ ((a ≡ 20) ⊎ (a ≡ 21)))
+Past a = (a ≡ ACCEPT) ⊎ ((a ≡ REJECT) ⊎ ((a ≡ NO-SETS) ⊎ (a ≡ NO-LINKS)))
 
 -- A parse with the table's numbers m before and n after, the link buffer b before and c after: "After every parse that got past its
 -- checks the pool's part of the link buffer is all zero; numbers beyond it are never touched."

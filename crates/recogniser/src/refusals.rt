@@ -1,8 +1,9 @@
 // What Parse refuses before anything is touched: 11, 10, 18, 19, in this order.
 ghost use mathlib.Core.Path.{_≡_};
+ghost use Rattle.laws.specs.Choice.{Tells};
 ghost use Rattle.theory.specs.Calls.{allTokens};
 ghost use Rattle.table.specs.Layout.{mem};
-ghost use Rattle.recogniser.specs.Check.{Checks};
+ghost use Rattle.recogniser.specs.Check.{PoolFits, Checks};
 use symbols::Answer;
 use symbols::Symbol;
 
@@ -28,13 +29,12 @@ pub fn check(
 ) -> Checked
     ensures { λ r. ⌜ Checks (mem (now (rules .entry)) (now (cells .entry)) (now (words .entry))) room pool (now (line .entry)) r ⌝ }
 {
-    if !form::is_formed(rules, cells, words) {
+    let formed = form::is_formed(rules, cells, words);
+    let fits = pool_fits(room, pool);
+    if !formed {
         return Checked::Refused(Answer::BadTable);
     }
-    if pool > MOST_LINKS {
-        return Checked::Refused(Answer::BadPool);
-    }
-    if room < (pool + 1) * links::RECORD {
+    if !fits {
         return Checked::Refused(Answer::BadPool);
     }
     if line.len() > MOST_TOKENS {
@@ -44,6 +44,16 @@ pub fn check(
         return Checked::Refused(Answer::BadToken);
     }
     Checked::Passed
+}
+
+// Whether the link size is in its range and the link buffer long enough for it.
+fn pool_fits(room: usize, pool: usize) -> bool
+    ensures { λ r. ⌜ Tells r (PoolFits room pool) ⌝ }
+{
+    if pool > MOST_LINKS {
+        return false;
+    }
+    (pool + 1) * links::RECORD <= room
 }
 
 // Whether each number of the line is a terminal.

@@ -1,21 +1,21 @@
 // The whole listing, piece by piece into one text.
 use listing::TEXT;
-ghost use mathlib.Core.Path.{_≡_};
-ghost use mathlib.Core.List.{List, []};
-ghost use Prim.Native.Nat.{ℕ, _+_, _*_, _≤_, _<_};
+ghost use mathlib.Core.List.{[]};
+ghost use Prim.Native.Nat.{_+_, _*_, _≤_, _<_};
 ghost use lib.ListN.{length};
 ghost use Rattle.laws.specs.Choice.{when};
 ghost use Rattle.table.specs.Layout.{setsIn, mem, view};
 ghost use Rattle.table.specs.Laid.{Laid};
 ghost use Rattle.text.specs.Puts.{Puts};
-ghost use Rattle.listing.specs.Printed.{contents, body, listing};
-ghost use Rattle.listing.specs.Walk.{used};
+ghost use Rattle.listing.specs.Printed.{body, listing};
+ghost use Rattle.listing.specs.Walk.{used, contentsOf};
 
 // Puts the contents line, then one body per set.
 pub fn put_listing(rules: &[u8], cells: &[u8], words: &[u64], out: &mut [u8], at: usize) -> usize
     requires { ⌜ Laid (mem (now rules) (now cells) (now words)) ⌝ }
     requires { ⌜ (length (now cells) ≤ 16384) × (at + 1056768 ≤ length (now out)) ⌝ }
-    ensures { λ r. ⌜ Puts (now (out .entry)) at (now (out .exit)) r (listing (view (mem (now (rules .entry)) (now (cells .entry)) (now (words .entry))))) ⌝ }
+    ensures { λ r. ⌜ Puts (now (out .entry)) at (now (out .exit)) r
+        (listing (view (mem (now (rules .entry)) (now (cells .entry)) (now (words .entry))))) ⌝ }
 {
     let sets = table::sets_in(rules);
     let mut end = put_contents(cells, sets, out, at);
@@ -30,8 +30,7 @@ pub fn put_listing(rules: &[u8], cells: &[u8], words: &[u64], out: &mut [u8], at
 // Puts the contents line.
 fn put_contents(cells: &[u8], sets: usize, out: &mut [u8], at: usize) -> usize
     requires { ⌜ (sets ≤ 255) × (sets * 128 ≤ length (now cells)) × (at + 8192 ≤ length (now out)) ⌝ }
-    ensures { λ r. ⌜ (r ≤ at + 8192) × ((rules words : List ℕ) → sets ≡ setsIn rules
-        → Puts (now (out .entry)) at (now (out .exit)) r (contents (view (mem rules (now (cells .entry)) words)))) ⌝ }
+    ensures { λ r. ⌜ (r ≤ at + 8192) × Puts (now (out .entry)) at (now (out .exit)) r (contentsOf (now (cells .entry)) sets) ⌝ }
 {
     let room = at + TEXT;
     at + listing::contents(cells, sets, &mut out[at..room])

@@ -1,3 +1,4 @@
 -- Laws of the exported calls.
 pub mod Answered
 pub mod Told
+pub mod OneOutcome

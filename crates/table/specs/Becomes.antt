@@ -2,6 +2,7 @@
 use mathlib.Core.Path.{_≡_}
 use Prim.Native.Nat.{ℕ, _+_, _*_, _≤_}
 use lib.ListN.{getD}
+use Rattle.symbols.specs.Answer.{BAD-TABLE}
 use Rattle.theory.specs.Table.{Table}
 use Rattle.theory.specs.Parse.{Outcome}
 use Rattle.table.specs.Layout.{Mem, setsIn, rulesIn, view}
@@ -23,4 +24,4 @@ pub record Promised (call : Table → Outcome) (m n : Mem) (a k : ℕ) : Type 0 
   pub answer : Formed m → a ≡ call (view m) .answer
   pub number : Formed m → k ≡ call (view m) .number
   pub table : Formed m → Becomes m n (call (view m) .table)
-  pub no-table : (Formed m → ⊥) → (a ≡ 11) × (k ≡ 0) × (n ≡ m)
+  pub no-table : (Formed m → ⊥) → (a ≡ BAD-TABLE) × (k ≡ 0) × (n ≡ m)

@@ -2,6 +2,7 @@
 use native.Mathlib.Omega.{arith}
 use borrow.Author.Needs.{needs}
 use lib.ListN.{length-set}
+use Rattle.theory.proofs.FormNew.{pools-in-range}
 use Rattle.changes.proofs.Made.{new-made}
 use Rattle.changes.proofs.make.Statement.{statement}
 use Rattle.changes.proofs.make.Tie as tie
@@ -16,13 +17,13 @@ clear-requires : tie.Need-clear-requires
 clear-requires c κs = search needs
 
 cast-rules : tie.Need-cast-rules
-cast-rules c = search needs
+cast-rules c = let start : tie.Start = search in omega (arith, pools-in-range _ _ .0 (start .pre .in-range))
 
 slice-write-rules : tie.Need-slice-write-rules
 slice-write-rules c = search needs
 
 cast-rules-2 : tie.Need-cast-rules-2
-cast-rules-2 c = search needs
+cast-rules-2 c = let start : tie.Start = search in omega (arith, pools-in-range _ _ .0 (start .pre .in-range))
 
 slice-write-rules-2 : tie.Need-slice-write-rules-2
 slice-write-rules-2 c = simp length-set (omega arith)
@@ -34,7 +35,7 @@ clear-requires-2 : tie.Need-clear-requires-2
 clear-requires-2 c κs = search needs
 
 slice-write-cells : tie.Need-slice-write-cells
-slice-write-cells c = search needs
+slice-write-cells c = let start : tie.Start = search in omega (arith, pools-in-range _ _ .0 (start .pre .in-range))
 
 mul-clear-3 : tie.Need-mul-clear-3
 mul-clear-3 c = search needs

@@ -1,6 +1,5 @@
 -- `changes::unexpand_start` meets its contract. Assumes nothing.
 use borrow.Author.Needs.{needs}
-use Rattle.changes.proofs.UnexpandStart.{start-unexpanded}
 use Rattle.changes.proofs.unexpand_start.Statement.{statement}
 use Rattle.changes.proofs.unexpand_start.Tie as tie
 
@@ -14,7 +13,7 @@ same-length-2 : tie.Need-same-length-2
 same-length-2 c = search needs
 
 returns : tie.Need-returns
-returns c = start-unexpanded _ _ (c .before .before .before .before .unexpand .ensures)
+returns c = c .before .before .before .before .unexpand .ensures
 
 pub unexpand-start-spec : {M : Type 1} → statement M
 unexpand-start-spec = tie.close (tie.spec unexpand-requires same-length same-length-2 returns)

@@ -1,8 +1,9 @@
--- `expansion::room::missing` meets its contract. The invariant: n of the symbols below `from` lead to a kernel that no set has. Assumes nothing.
+-- `expansion::room::missing` meets its contract. The invariant: n of the symbols below `from` lead to a kernel that no set has.
+-- Assumes nothing.
 use Prim.Native.Nat.{_-_}
 use native.Mathlib.Omega.{arith}
 use Rattle.expansion.proofs.Rest.{least}
-use Rattle.expansion.proofs.Missing.{Counted, count-start, count-above, count-turn, count-end}
+use Rattle.expansion.proofs.Missing.{Counted, one-small, count-start, count-above, count-turn, count-end}
 use borrow.Author.Needs.{needs}
 use Rattle.expansion.proofs.room.missing.Statement.{statement}
 use Rattle.expansion.proofs.room.missing.Tie as tie
@@ -29,22 +30,48 @@ enum-told : tie.Need-enum-told Inv-loop μ-loop
 enum-told c = search needs
 
 returns : tie.Need-returns Inv-loop μ-loop
-returns c = count-end _ _ _ _ (c .before .before .before .before .before .before .before .pre .1) (c .before .before .before .before .loop .inv) (c .enum-told .given .1) (c .before .before .next .ensures)
+returns c =
+    let next = c .before .before .next in
+    let loop = c .before .before .before .before .loop in
+    let pre = c .before .before .before .before .before .before .before .pre in
+    count-end _ _ _ _ (pre .1) (loop .inv) (c .enum-told .given .1) (next .ensures)
 
 one-if-missing-requires : tie.Need-one-if-missing-requires Inv-loop μ-loop
-one-if-missing-requires c κs = (c .before .before .before .before .before .before .before .before .pre .0 .0, c .before .before .before .before .before .before .before .before .pre .0 .1, c .before .before .before .before .before .before .before .before .pre .0 .2, count-above _ _ _ _ (c .before .before .before .before .before .before .before .before .pre .1) (c .before .before .before .before .before .loop .inv) (c .before .x .given .1) (c .before .before .before .next .ensures))
+one-if-missing-requires c κs =
+    let next = c .before .before .before .next in
+    let loop = c .before .before .before .before .before .loop in
+    let pre = c .before .before .before .before .before .before .before .before .pre in
+    (pre .0, count-above _ _ _ _ (pre .1) (loop .inv) (c .before .x .given .1) (next .ensures))
 
 add-n : tie.Need-add-n Inv-loop μ-loop
-add-n c = omega (arith, c .before .before .before .before .before .before .loop .inv .inside, c .before .before .before .before .before .before .loop .inv .small, c .one-if-missing .ensures .small)
+add-n c =
+    let loop = c .before .before .before .before .before .before .loop in
+    let args = c .before .before .before .before .before .before .before .before .before .args in
+    let one = one-small (args .rules .now) (args .words .now) (args .closure) (c .before .before .x .given .0 .0) in
+    omega (arith, loop .inv .inside, loop .inv .small, c .one-if-missing .ensures, one)
 
 add-from : tie.Need-add-from Inv-loop μ-loop
-add-from c = omega (arith, least _ (c .before .before .before .before .before .before .loop .from) (c .before .before .x .given .1) (c .before .before .before .before .next .ensures) .inside)
+add-from c =
+    let x = c .before .before .x in
+    let next = c .before .before .before .before .next in
+    let loop = c .before .before .before .before .before .before .loop in
+    omega (arith, least _ (loop .from) (x .given .1) (next .ensures) .inside)
 
 loop-less : tie.Need-loop-less Inv-loop μ-loop
-loop-less c = let l = least _ (c .before .before .before .before .before .before .loop .from) (c .before .before .x .given .1) (c .before .before .before .before .next .ensures) in omega (arith, l .inside, l .above)
+loop-less c =
+    let x = c .before .before .x in
+    let next = c .before .before .before .before .next in
+    let loop = c .before .before .before .before .before .before .loop in
+    let l = least _ (loop .from) (x .given .1) (next .ensures) in
+    omega (arith, l .inside, l .above)
 
 loop-again : tie.Need-loop-again Inv-loop μ-loop
-loop-again c = count-turn _ _ _ _ (c .before .before .before .before .before .before .before .before .before .pre .1) (c .before .before .before .before .before .before .loop .inv) (c .before .before .x .given .1) (c .before .before .before .before .next .ensures) (c .one-if-missing .ensures)
+loop-again c =
+    let x = c .before .before .x in
+    let next = c .before .before .before .before .next in
+    let loop = c .before .before .before .before .before .before .loop in
+    let pre = c .before .before .before .before .before .before .before .before .before .pre in
+    count-turn _ _ _ _ (pre .1) (loop .inv) (x .given .1) (next .ensures) (c .one-if-missing .ensures)
 
 pub missing-spec : {M : Type 1} → statement M
 missing-spec =

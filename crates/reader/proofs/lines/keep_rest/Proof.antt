@@ -4,6 +4,7 @@ use Prim.Native.Nat.{_-_, _≤_}
 use native.Mathlib.Omega.{arith}
 use lib.ListN.{take, drop}
 use borrow.Author.Needs.{needs}
+use Rattle.laws.proofs.Places.{the}
 use Rattle.reader.proofs.Rest.{Moved, moved-none, moved-more}
 use Rattle.reader.proofs.lines.keep_rest.Statement.{statement}
 use Rattle.reader.proofs.lines.keep_rest.Tie as tie
@@ -27,13 +28,24 @@ loop-holds : tie.Need-loop-holds Inv-loop μ-loop
 loop-holds c = (omega arith, moved-none)
 
 add-text : tie.Need-add-text Inv-loop μ-loop
-add-text c = omega (arith, c .before .before .before .before .pre, c .loop-test .taken, c .before .before .least .ensures, c .before .loop .inv)
+add-text c =
+    let start : tie.Start Inv-loop μ-loop = search in
+    let least = the (tie.After-least Inv-loop μ-loop) (search) .least in
+    omega (arith, start .pre, c .loop-test .taken, least .ensures, c .before .loop .inv)
 
 slice-read-text : tie.Need-slice-read-text Inv-loop μ-loop
-slice-read-text c = omega (arith, c .before .before .before .before .before .pre, c .before .loop-test .taken, c .before .before .before .least .ensures, c .before .before .loop .inv .1 .same-length)
+slice-read-text c =
+    let start : tie.Start Inv-loop μ-loop = search in
+    let least = the (tie.After-least Inv-loop μ-loop) (search) .least in
+    let loop = the (tie.At-loop Inv-loop μ-loop) (search) .loop in
+    omega (arith, start .pre, c .before .loop-test .taken, least .ensures, loop .inv .1 .same-length)
 
 slice-write-text : tie.Need-slice-write-text Inv-loop μ-loop
-slice-write-text c = omega (arith, c .before .before .before .before .before .pre, c .before .loop-test .taken, c .before .before .before .least .ensures, c .before .before .loop .inv .1 .same-length)
+slice-write-text c =
+    let start : tie.Start Inv-loop μ-loop = search in
+    let least = the (tie.After-least Inv-loop μ-loop) (search) .least in
+    let loop = the (tie.At-loop Inv-loop μ-loop) (search) .loop in
+    omega (arith, start .pre, c .before .loop-test .taken, least .ensures, loop .inv .1 .same-length)
 
 add-i : tie.Need-add-i Inv-loop μ-loop
 add-i c = search needs
@@ -42,18 +54,26 @@ loop-less : tie.Need-loop-less Inv-loop μ-loop
 loop-less c = search needs
 
 loop-again : tie.Need-loop-again Inv-loop μ-loop
-loop-again c = (omega arith, moved-more (c .before .before .loop .inv .1) (omega (arith, c .before .before .before .before .before .pre, c .before .loop-test .taken, c .before .before .before .least .ensures)))
+loop-again c =
+    let start : tie.Start Inv-loop μ-loop = search in
+    let least = the (tie.After-least Inv-loop μ-loop) (search) .least in
+    let loop = the (tie.At-loop Inv-loop μ-loop) (search) .loop in
+    (omega arith, moved-more (loop .inv .1) (omega (arith, start .pre, c .before .loop-test .taken, least .ensures)))
 
 same-length : tie.Need-same-length Inv-loop μ-loop
 same-length c = c .before .loop .inv .1 .same-length
 
 returns : tie.Need-returns Inv-loop μ-loop
-returns c = let e : c .before .loop .i ≡ c .before .before .least .result = omega (arith, c .loop-test .left, c .before .loop .inv .0) in
+returns c =
+    let start : tie.Start Inv-loop μ-loop = search in
+    let least = the (tie.After-least Inv-loop μ-loop) (search) .least in
+    let e : c .before .loop .i ≡ least .result = omega (arith, c .loop-test .left, c .before .loop .inv .0) in
     record {
-      few = omega (arith, c .before .before .least .ensures);
-      all = λ h. omega (arith, c .before .before .least .ensures);
-      cut = λ h. omega (arith, c .before .before .least .ensures);
-      front = subst (λ i. take i (c .before .loop .text) ≡ take i (drop (c .before .before .before .before .args .at) (c .before .before .before .before .args .text .now))) e (c .before .loop .inv .1 .front);
+      few = omega (arith, least .ensures);
+      all = λ h. omega (arith, least .ensures);
+      cut = λ h. omega (arith, least .ensures);
+      front = subst (λ i. take i (c .before .loop .text) ≡ take i (drop (start .args .at) (start .args .text .now))) e
+          (c .before .loop .inv .1 .front);
     }
 
 pub keep-rest-spec : {M : Type 1} → statement M

@@ -1,4 +1,11 @@
 -- `run_last` meets its contract. Assumes nothing.
+use Rattle.laws.proofs.Places.{the}
+use Rattle.reader.proofs.Running.{last-none}
+use mathlib.Core.Logic.{_≢_}
+use mathlib.Core.Path.{_≡_, ap, sym, subst}
+use lib.ListN.{length, take}
+use Rattle.desk.specs.Script.{Last}
+use Rattle.desk.specs.Script.Last.{nothing, unended}
 use mathlib.Core.Path.{refl}
 use mathlib.Core.List.{[]}
 use native.Mathlib.Omega.{arith}
@@ -9,10 +16,18 @@ use Rattle.reader.proofs.lines.run_last.Statement.{statement}
 use Rattle.reader.proofs.lines.run_last.Tie as tie
 
 returns : tie.Need-returns
-returns c = record { printed = []; ended = λ _. (refl, refl); last = λ n. absurd (n (omega (arith, c .if1 .taken))); waits = waits-none _ _ (c .before .before .before .before .before .before .before .pre .3) }
+returns c =
+    let start : tie.Start = search in
+    record {
+      printed = [];
+      last = last-none _ (start .args .n) (start .args .text .now) (omega (arith, c .if1 .taken));
+      waits = waits-none _ _ (start .pre .3);
+    }
 
 slice-aggregate-run-line : tie.Need-slice-aggregate-run-line
-slice-aggregate-run-line c = omega (arith, c .before .before .before .before .before .before .before .before .pre, length-take (c .before .before .before .before .before .before .before .before .args .n) (c .before .before .before .before .before .before .before .before .args .text .now))
+slice-aggregate-run-line c =
+    let start : tie.Start = search in
+    omega (arith, start .pre, length-take (start .args .n) (start .args .text .now))
 
 run-line-requires : tie.Need-run-line-requires
 run-line-requires c κs = search needs
@@ -33,7 +48,18 @@ same-length-5 : tie.Need-same-length-5
 same-length-5 c = search needs
 
 returns-2 : tie.Need-returns-2
-returns-2 c = let l = c .before .before .before .before .before .before .before .before .before .before .run-line .ensures in record { printed = l .prints .text; ended = λ z. absurd (omega (arith, c .before .before .before .before .before .before .before .before .before .before .before .before .before .before .before .before .before .if1 .left)); last = λ _. l .prints .answers; waits = puts-wait (l .ready) (l .prints .puts) (l .inside) (c .before .before .before .before .before .before .before .before .before .before .before .before .before .before .before .before .before .before .before .before .before .before .before .before .pre .3) }
+returns-2 c =
+    let start : tie.Start = search in
+    let if1 = the tie.Else1 (search) .if1 in
+    let l = the tie.After-run-line (search) .run-line .ensures in
+    let line = take (start .args .n) (start .args .text .now) in
+    let some : line ≢ [] =
+    λ e. omega (arith, ap length e, length-take (start .args .n) (start .args .text .now), start .pre, if1 .left) in
+    record {
+      printed = l .prints .text;
+      last = unended some (l .prints .answers) (l .sizes);
+      waits = puts-wait (l .ready) (l .prints .puts) (l .inside) (start .pre .3);
+    }
 
 pub run-last-spec : {M : Type 1} → statement M
 run-last-spec =

@@ -1,6 +1,7 @@
 -- `run_line` meets its contract. Assumes nothing.
 use native.Mathlib.Omega.{arith}
 use borrow.Author.Needs.{needs}
+use Rattle.laws.proofs.Places.{the}
 use Rattle.reader.proofs.Inside.{puts-inside}
 use Rattle.reader.proofs.lines.run_line.Statement.{statement}
 use Rattle.reader.proofs.lines.run_line.Tie as tie
@@ -27,8 +28,23 @@ same-length-5 : tie.Need-same-length-5
 same-length-5 c = search needs
 
 returns : tie.Need-returns
-returns c = let p = c .before .before .before .before .before .before .before .before .before .before .answer .ensures in let inside = puts-inside (p .puts) (omega (arith, c .before .before .before .before .before .before .before .before .before .before .before .before .before .before .before .before .ready .ensures .room)) in
-    record { inside = omega (arith, inside, c .before .before .before .before .before .before .before .before .before .before .answer .kept .1 .1 .1 .1 .1 .0); start = _; ready = c .before .before .before .before .before .before .before .before .before .before .before .before .before .before .before .before .ready .ensures; prints = p }
+returns c =
+    let ready′ = the tie.After-ready (search) .ready in
+    let answer = the tie.After-answer (search) .answer in
+    let p = answer .ensures in
+    let inside = puts-inside (p .puts) (omega (arith, ready′ .ensures .room)) in
+    record {
+      inside = omega (arith, inside, answer .kept .1 .1 .1 .1 .1 .0);
+      start = _;
+      ready = ready′ .ensures;
+      prints = p;
+      sizes = record {
+        rules = answer .kept .1 .0;
+        cells = answer .kept .1 .1 .0;
+        words = answer .kept .1 .1 .1 .0;
+        links = answer .kept .1 .1 .1 .1 .0;
+      };
+    }
 
 pub run-line-spec : {M : Type 1} → statement M
 run-line-spec =

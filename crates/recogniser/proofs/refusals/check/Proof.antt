@@ -1,56 +1,87 @@
--- `recogniser::refusals::check` meets its contract. Assumes nothing.
+-- `recogniser::refusals::check` meets its contract: 01's order of checks. Assumes nothing.
 use mathlib.Core.Path.{sym, subst}
 use native.Mathlib.Omega.{arith}
+use borrow.Author.Needs.{needs}
 use borrow.Author.Tests.{not-true, not-false}
 use lib.Dec.{T}
 use Rattle.laws.proofs.Choice.{tells-yes, tells-no, no-of, yes-of}
-use Rattle.recogniser.specs.Check.Refusal.{bad-table, large-pool, short-buffer, long-line, bad-token}
+use Rattle.recogniser.specs.Check.Refusal.{bad-table, bad-pool, long-line, bad-token}
 use Rattle.recogniser.proofs.Promise.{came-passed, came-refused}
-use borrow.Author.Needs.{needs}
 use Rattle.recogniser.proofs.refusals.check.Statement.{statement}
 use Rattle.recogniser.proofs.refusals.check.Tie as tie
 
 is-formed-requires : tie.Need-is-formed-requires
 is-formed-requires c κs = search needs
 
+pool-fits-requires : tie.Need-pool-fits-requires
+pool-fits-requires c κs = search needs
+
 returns : tie.Need-returns
-returns c = came-refused (bad-table (tells-no (c .before .is-formed .result) (c .before .is-formed .ensures) (not-true (c .before .is-formed .result) (c .if1 .taken))))
+returns c =
+    let is-formed = c .before .before .is-formed in
+    came-refused (bad-table (tells-no _ (is-formed .ensures) (not-true (is-formed .result) (c .if1 .taken))))
 
 returns-2 : tie.Need-returns-2
-returns-2 c = came-refused (large-pool (tells-yes (c .before .before .is-formed .result) (c .before .before .is-formed .ensures) (not-false (c .before .before .is-formed .result) (c .before .if1 .left))) (let h = c .if2 .taken in omega arith))
-
-add-if3 : tie.Need-add-if3
-add-if3 c = search needs
-
-mul-if3 : tie.Need-mul-if3
-mul-if3 c = search needs
+returns-2 c =
+    let if1 = c .before .if1 in
+    let pool-fits = c .before .before .pool-fits in
+    let is-formed = c .before .before .before .is-formed in
+    let formed = tells-yes _ (is-formed .ensures) (not-false (is-formed .result) (if1 .left)) in
+    came-refused (bad-pool formed (tells-no _ (pool-fits .ensures) (not-true (pool-fits .result) (c .if2 .taken))))
 
 returns-3 : tie.Need-returns-3
-returns-3 c = came-refused (short-buffer (tells-yes (c .before .before .before .is-formed .result) (c .before .before .before .is-formed .ensures) (not-false (c .before .before .before .is-formed .result) (c .before .before .if1 .left))) (let h = c .if3 .taken in omega arith))
-
-returns-4 : tie.Need-returns-4
-returns-4 c = came-refused (long-line (tells-yes (c .before .before .before .before .is-formed .result) (c .before .before .before .before .is-formed .ensures) (not-false (c .before .before .before .before .is-formed .result) (c .before .before .before .if1 .left))) (let h = c .before .before .if2 .left in omega arith) (let h = c .before .if3 .left in omega arith) (let h = c .if4 .taken in omega arith))
+returns-3 c =
+    let if2 = c .before .if2 in
+    let if1 = c .before .before .if1 in
+    let pool-fits = c .before .before .before .pool-fits in
+    let is-formed = c .before .before .before .before .is-formed in
+    let formed = tells-yes _ (is-formed .ensures) (not-false (is-formed .result) (if1 .left)) in
+    let fits = tells-yes _ (pool-fits .ensures) (not-false (pool-fits .result) (if2 .left)) in
+    came-refused (long-line formed fits (let h = c .if3 .taken in omega arith))
 
 are-tokens-requires : tie.Need-are-tokens-requires
 are-tokens-requires c κs = search needs
 
-returns-5 : tie.Need-returns-5
-returns-5 c = came-refused (bad-token (tells-yes (c .before .before .before .before .before .before .is-formed .result) (c .before .before .before .before .before .before .is-formed .ensures) (not-false (c .before .before .before .before .before .before .is-formed .result) (c .before .before .before .before .before .if1 .left))) (let h = c .before .before .before .before .if2 .left in omega arith) (let h = c .before .before .before .if3 .left in omega arith) (let h = c .before .before .if4 .left in omega arith) (λ t. subst T (no-of (c .before .are-tokens .ensures) (c .if5 .taken)) t))
+returns-4 : tie.Need-returns-4
+returns-4 c =
+    let are-tokens = c .before .are-tokens in
+    let if3 = c .before .before .if3 in
+    let if2 = c .before .before .before .if2 in
+    let if1 = c .before .before .before .before .if1 in
+    let pool-fits = c .before .before .before .before .before .pool-fits in
+    let is-formed = c .before .before .before .before .before .before .is-formed in
+    let formed = tells-yes _ (is-formed .ensures) (not-false (is-formed .result) (if1 .left)) in
+    let fits = tells-yes _ (pool-fits .ensures) (not-false (pool-fits .result) (if2 .left)) in
+    came-refused (bad-token formed fits (let h = if3 .left in omega arith) (λ t. subst T (no-of (are-tokens .ensures) (c .if4 .taken)) t))
 
-returns-6 : tie.Need-returns-6
-returns-6 c = came-passed (record { formed = tells-yes (c .before .before .before .before .before .before .is-formed .result) (c .before .before .before .before .before .before .is-formed .ensures) (not-false (c .before .before .before .before .before .before .is-formed .result) (c .before .before .before .before .before .if1 .left)); roomy = let h = c .before .before .before .if3 .left in omega arith; fits = record { links = let h = c .before .before .before .before .if2 .left in omega arith; short = let h = c .before .before .if4 .left in omega arith; tokens = subst T (sym (yes-of (c .before .are-tokens .ensures) (c .if5 .left))) tt } })
+returns-5 : tie.Need-returns-5
+returns-5 c =
+    let are-tokens = c .before .are-tokens in
+    let if3 = c .before .before .if3 in
+    let if2 = c .before .before .before .if2 in
+    let if1 = c .before .before .before .before .if1 in
+    let pool-fits = c .before .before .before .before .before .pool-fits in
+    let is-formed = c .before .before .before .before .before .before .is-formed in
+    let fits = tells-yes _ (pool-fits .ensures) (not-false (pool-fits .result) (if2 .left)) in
+    came-passed (record {
+      formed = tells-yes _ (is-formed .ensures) (not-false (is-formed .result) (if1 .left));
+      roomy = fits .1;
+      fits = record {
+        links = fits .0;
+        short = let h = if3 .left in omega arith;
+        tokens = subst T (sym (yes-of (are-tokens .ensures) (c .if4 .left))) tt;
+      };
+    })
 
 pub check-spec : {M : Type 1} → statement M
 check-spec =
     tie.close
     (tie.spec
     is-formed-requires
+    pool-fits-requires
     returns
     returns-2
-    add-if3
-    mul-if3
     returns-3
-    returns-4
     are-tokens-requires
-    returns-5
-    returns-6)
+    returns-4
+    returns-5)

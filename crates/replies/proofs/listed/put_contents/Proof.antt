@@ -1,9 +1,8 @@
 -- `put_contents` meets its contract. Assumes nothing.
-use mathlib.Core.Path.{refl}
-use mathlib.Core.List.{[], _∷_}
-use Prim.Native.Nat.{_+_, _-_}
+use Prim.Native.Nat.{_+_, _-_, _≤_}
 use native.Mathlib.Omega.{arith}
 use borrow.Author.Needs.{needs}
+use lib.ListN.{length}
 use Rattle.replies.proofs.Parts.{part-room, puts-part}
 use Rattle.replies.proofs.listed.put_contents.Statement.{statement}
 use Rattle.replies.proofs.listed.put_contents.Tie as tie
@@ -24,14 +23,24 @@ contents-requires : tie.Need-contents-requires
 contents-requires c κs = search needs
 
 add-result : tie.Need-add-result
-add-result c = omega (arith, c .before .before .before .before .before .before .pre, part-room (c .before .before .before .before .before .before .args .out .now) (c .before .before .before .before .before .before .args .at) (c .before .before .before .before .before .before .args .at + 8192 - c .before .before .before .before .before .before .args .at) (omega (arith, c .before .before .before .before .before .before .pre)) (c .before .before .contents .kept .1 .1 .0) (c .before .before .contents .ensures (c .before .before .before .before .before .before .args .sets ∷ []) [] refl))
+add-result c =
+    let contents = c .before .before .contents in
+    let start = c .before .before .before .before .before .before in
+    let at = start .args .at in
+    let room : at + (at + 8192 - at) ≤ length (start .args .out .now) = omega (arith, start .pre) in
+    omega (arith, start .pre, part-room (start .args .out .now) at (at + 8192 - at) room (contents .kept .1 .1 .0) (contents .ensures))
 
 same-length : tie.Need-same-length
 same-length c = search needs
 
 returns : tie.Need-returns
-returns c = let n = part-room (c .before .before .before .before .before .before .args .out .now) (c .before .before .before .before .before .before .args .at) (c .before .before .before .before .before .before .args .at + 8192 - c .before .before .before .before .before .before .args .at) (omega (arith, c .before .before .before .before .before .before .pre)) (c .before .before .contents .kept .1 .1 .0) (c .before .before .contents .ensures (c .before .before .before .before .before .before .args .sets ∷ []) [] refl) in
-    (omega arith, λ rules words e. puts-part (c .before .before .before .before .before .before .args .out .now) (c .before .before .before .before .before .before .args .at) (c .before .before .before .before .before .before .args .at + 8192 - c .before .before .before .before .before .before .args .at) (omega (arith, c .before .before .before .before .before .before .pre)) (c .before .before .contents .kept .1 .1 .0) (c .before .before .contents .ensures rules words e))
+returns c =
+    let contents = c .before .before .contents in
+    let start = c .before .before .before .before .before .before in
+    let at = start .args .at in
+    let room : at + (at + 8192 - at) ≤ length (start .args .out .now) = omega (arith, start .pre) in
+    let within = part-room (start .args .out .now) at (at + 8192 - at) room (contents .kept .1 .1 .0) (contents .ensures) in
+    (omega arith, puts-part (start .args .out .now) at (at + 8192 - at) room (contents .kept .1 .1 .0) (contents .ensures))
 
 pub put-contents-spec : {M : Type 1} → statement M
 put-contents-spec =

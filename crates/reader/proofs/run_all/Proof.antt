@@ -1,17 +1,14 @@
--- `main` meets its contract. Assumes nothing.
-use Prim.Native.Nat.{_-_, _≤_}
+-- `run_all` meets its contract. Assumes nothing.
+use Prim.Native.Nat.{_≤_, _-_}
 use borrow.Author.Needs.{needs}
-use Rattle.reader.proofs.main.Statement.{statement}
-use Rattle.reader.proofs.main.Tie as tie
+use Rattle.reader.proofs.run_all.Statement.{statement}
+use Rattle.reader.proofs.run_all.Tie as tie
 
 abbrev Inv-loop : tie.InvT-loop
-Inv-loop n i₀ i = i ≤ n
+Inv-loop first n standing₀ i₀ standing i = i ≤ n
 
 abbrev μ-loop : tie.MeasureT-loop
-μ-loop n i₀ i = n - i
-
-arg-count-requires : tie.Need-arg-count-requires Inv-loop μ-loop
-arg-count-requires c κs = search needs
+μ-loop first n standing₀ i₀ standing i = n - i
 
 slice-aggregate-run : tie.Need-slice-aggregate-run Inv-loop μ-loop
 slice-aggregate-run c = search needs
@@ -25,8 +22,8 @@ returns c = search needs
 loop-holds : tie.Need-loop-holds Inv-loop μ-loop
 loop-holds c = search needs
 
-run-named-requires : tie.Need-run-named-requires Inv-loop μ-loop
-run-named-requires c κs = search needs
+run-next-requires : tie.Need-run-next-requires Inv-loop μ-loop
+run-next-requires c κs = search needs
 
 add-i : tie.Need-add-i Inv-loop μ-loop
 add-i c = search needs
@@ -40,18 +37,17 @@ loop-again c = search needs
 returns-2 : tie.Need-returns-2 Inv-loop μ-loop
 returns-2 c = search needs
 
-pub main-spec : {M : Type 1} → statement M
-main-spec =
+pub run-all-spec : {M : Type 1} → statement M
+run-all-spec =
     tie.close
     (tie.spec
     Inv-loop
     μ-loop
-    arg-count-requires
     slice-aggregate-run
     run-requires
     returns
     loop-holds
-    run-named-requires
+    run-next-requires
     add-i
     loop-less
     loop-again
