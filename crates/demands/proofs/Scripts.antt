@@ -83,8 +83,8 @@ pub script-run : {e : State} {script printed : List ℕ} → Script blank script
 script-run s = ended (ran blank-at-desk (s .ran)) (s .last)
 
 before-line : {d e f : State} {script line text : List ℕ} → AtDesk d → LineOf d script e line f text → AtDesk e × Answers line e f text
-before-line a (first rest u p e) = (a, p)
-before-line a (later u p e l) = before-line (obeyed a (p .obeys)) l
+before-line a (first rest u e f p) = (a, p)
+before-line a (later u e f p l) = before-line (obeyed a (p .obeys)) l
 before-line a (last n u p) = (a, p)
 
 -- ---- a P line
