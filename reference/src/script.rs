@@ -107,7 +107,7 @@ fn read(line: &[u8]) -> Option<Command> {
     let rule = || symbols()?.split_first().map(|(&left, right)| (left, right.to_vec()));
     match letter {
         b'N' => match numbers[..] {
-            [] => Some(Command::New(32, 32, 256)),
+            [] => Some(Command::New(128, 128, 1024)),
             [sets, rules, links] => Some(Command::New(sets, rules, links)),
             _ => None,
         },

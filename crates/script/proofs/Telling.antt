@@ -37,9 +37,9 @@ by-letter {ns = ns} {r} e t = subst (λ c. Tells c ns r) (sym e) t
 
 -- ---- N
 
-pub new-alone : (ns : List ℕ) → length ns ≡ 0 → Tells 78 ns (New 32 32 256)
+pub new-alone : (ns : List ℕ) → length ns ≡ 0 → Tells 78 ns (New 128 128 1024)
 unfolding meaningOf when
-new-alone [] e = plain (New 32 32 256) refl refl
+new-alone [] e = plain (New 128 128 1024) refl refl
 new-alone (x ∷ ns) e = absurd (omega arith)
 
 pub new-sizes : (ns : List ℕ) → length ns ≡ 3 → Tells 78 ns (New (getD ns 0 0) (getD ns 1 0) (getD ns 2 0))

@@ -17,9 +17,9 @@ pub data Meaning : Type 0 where
   parse : (tokens : List ℕ) → Meaning
   collect restart list malformed : Meaning
 
--- "`N` alone means 32 32 256"; "N with one, two or over three numbers" is malformed
+-- "`N` alone means 128 128 1024" (W-201); "N with one, two or over three numbers" is malformed
 abbrev pub asNew : List ℕ → Meaning
-asNew [] = new 32 32 256
+asNew [] = new 128 128 1024
 asNew (a ∷ []) = malformed
 asNew (a ∷ b ∷ []) = malformed
 asNew (a ∷ b ∷ c ∷ []) = new a b c

@@ -96,7 +96,7 @@ fn new(ns: &[u16]) -> Command
     ensures { λ r. ⌜ Tells 78 (now (ns .entry)) r ⌝ }
 {
     if ns.len() == 0 {
-        return Command::New(32, 32, 256);
+        return Command::New(128, 128, 1024);
     }
     if ns.len() != 3 {
         return Command::Malformed;
