@@ -50,7 +50,7 @@ pub fn read(
     requires { ⌜ Readable size (now line) (mem (now rules) (now cells) (now words)) (length (now buf)) ⌝ }
     requires { ⌜ (length (now at) ≡ 256) × (length (now work) ≡ 12291) ⌝ }
     ensures { λ v. ⌜ Reads size (now (line .entry)) (mem (now (rules .entry)) (now (cells .entry)) (now (words .entry)))
-        (mem (now (rules .exit)) (now (cells .exit)) (now (words .exit))) v ⌝ }
+        (mem (now (rules .exit)) (now (cells .exit)) (now (words .exit))) (now (buf .exit)) v ⌝ }
 {
     let sets = table::sets_in(rules);
     let mut c = links::begin(buf, at, size, sets);
@@ -161,7 +161,7 @@ fn finish(
 ) -> Verdict
     requires { ⌜ Stands here (mem (now rules) (now cells) (now words)) (graph (now buf) (now at) c) × (length (now work) ≡ 12291) ⌝ }
     ensures { λ v. ⌜ Finishes here [] (mem (now (rules .entry)) (now (cells .entry)) (now (words .entry))) (graph (now (buf .entry)) (now (at .entry)) c)
-        (mem (now (rules .exit)) (now (cells .exit)) (now (words .exit))) v ⌝ }
+        (mem (now (rules .exit)) (now (cells .exit)) (now (words .exit))) (now (buf .exit)) v ⌝ }
 {
     let s = settle(rules, cells, words, buf, at, work, c, here);
     match s {
