@@ -1,4 +1,5 @@
--- The positions of a line one after the other: what holds at each, the first, the next, and the ends. Assumes nothing.
+-- The positions of a line one after the other: what holds at each, the first, the next, and the ends; and that on accept the buffer
+-- holds the graph. Assumes nothing.
 use mathlib.Core.Path.{_≡_, sym, _∙_, ap, subst}
 use mathlib.Core.List.{List, [], _∷_}
 use Prim.Native.Nat.{ℕ, suc, _+_, _≤_, _<_}
@@ -8,6 +9,7 @@ use lib.Dec.{T}
 use lib.ListN.{length, getD, drop}
 use lib.Seq.{drop-cons, drop-length}
 use Rattle.laws.proofs.Tests.{tests, all-below}
+use Rattle.symbols.specs.Answer.{ACCEPT, numberOf}
 use Rattle.symbols.specs.Symbol.{terminal}
 use Rattle.theory.specs.Table.{Table}
 use Rattle.theory.specs.Parse.{Link}
@@ -15,7 +17,8 @@ use Rattle.theory.specs.Reaches.{Reaches}
 use Rattle.theory.specs.Reaches.Reaches.{there}
 use Rattle.theory.specs.Calls.{allTokens}
 use Rattle.theory.proofs.Grounded.{Grounded, grounded}
-use Rattle.theory.proofs.Reaching.{reaches-leads, reaches-on}
+use Rattle.theory.proofs.Reaching.{reaches-leads, reaches-on, reached-finished}
+use Rattle.theory.proofs.Ends.{Finished}
 use Rattle.table.specs.Layout.{Mem, setsIn, view}
 use Rattle.table.specs.Laid.{Formed}
 use Rattle.links.specs.declared.Here.{Here}
@@ -92,6 +95,11 @@ module _ {size sets : ℕ} {line : List ℕ} {m : Mem} {p start : ℕ} {n : Mem}
   pub at-last : length line ≤ p → {n′ : Mem} {b : List ℕ} {v : Verdict} → Finishes (here p start size sets) [] n y n′ b v
       → Reads size line m n′ b v
   at-last l f = let low = I .low in let e : p ≡ length line = omega arith in read-to-end (ap (λ i. drop i line) e ∙ drop-length line) f
+
+-- on accept the buffer holds exactly the links of the graph of the table left, and all sets of its nodes are expanded
+pub holds-graph : {pool : ℕ} {line : List ℕ} {m n : Mem} {b : List ℕ} {v : Verdict} → Formed m → Reads pool line m n b v
+    → numberOf (v .answer) ≡ ACCEPT → Finished (view n) line (linksIn b (v .links))
+holds-graph {line = line} f r a = let h = r .accepted a in reached-finished line (f .form) (h .reaches) (h .ready)
 
 -- "each 1 to 63"
 pub token-fits : (line : List ℕ) → T (allTokens line) → (p : ℕ) → p < length line → (1 ≤ getD line p 0) × (getD line p 0 ≤ 63)

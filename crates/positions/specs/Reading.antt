@@ -65,8 +65,7 @@ pub record Advances (h : Here) (k : ℕ) (m : Mem) (x : Graph) (s : ℕ) (n : Me
   pub reaches : (w : List ℕ) → Reaches (h .size) (view m) (h .position) (linksOf x) (k ∷ w) (view n) (suc (h .position)) (linksOf y) w
 
 -- What the buffer b holds where a line is accepted: the graph of its last position, which the steps from position p with the links ls
--- and the tokens w to come have reached and which the l links in b make ready. So they are the graph of the table left
--- (`reached-finished` of theory).
+-- and the tokens w to come have reached, and which the l links in b make ready
 pub record Holds (pool : ℕ) (t : Table) (p : ℕ) (ls : List Link) (w : List ℕ) (n : Mem) (b : List ℕ) (l : ℕ) : Type 0 where
   pub last : Here
   pub at : List ℕ

@@ -4,9 +4,9 @@
 // its token is shifted, or at the end of the line the accept mark looked for.
 //
 // `buf` is the pool's part of the link buffer, `at` and `work` are the work numbers of `links` and `levels`. Each function hands the
-// counts of nodes and links on by value. What each promises is said by the steps of theory/specs/Steps.antt: whatever the steps from
-// the place that is left come to, the steps from the place that was entered come to. So `read` has, in the end, 01's steps from the
-// first position to the verdict.
+// counts of nodes and links on by value. What each promises is said by the steps of theory/specs/Steps.antt: from the place that was
+// entered they reach the place that is left (theory/specs/Reaches.antt), or end. So `read` has, in the end, 01's steps from the first
+// position to the verdict; and where that is accept, the graph of links is what the buffer holds (`holds-graph`).
 ghost use mathlib.Core.List.{[]};
 ghost use mathlib.Core.Path.{_≡_};
 ghost use Prim.Native.Nat.{_≤_, _<_};
@@ -36,7 +36,7 @@ pub enum Advanced {
     Ends(Verdict),
 }
 
-// Reads the line, position by position.
+// Reads the line, position by position. On accept the buffer is left with the graph of the whole line.
 pub fn read(
     rules: &mut [u8],
     cells: &mut [u8],

@@ -1,4 +1,4 @@
--- `positions::read` meets its contract. The invariant: the steps from position p lead to the outcome of the steps from the first (`At`).
+-- `positions::read` meets its contract. The invariant: the steps from the first position reach position p (`At`).
 -- The measure is what is left of the line. Assumes nothing.
 use mathlib.Core.Path.{_≡_, refl}
 use Prim.Native.Nat.{_-_}

@@ -1,4 +1,4 @@
--- `positions::settle::settle` meets its contract. The invariant: the steps from here lead to the outcome of the steps at first
+-- `positions::settle::settle` meets its contract. The invariant: the steps from the place that was entered reach this one
 -- (`Settling`). Each turn but the last leaves one more expanded set of a node here. Assumes nothing.
 use Rattle.positions.proofs.Settling.{waiting-at, Settling, settling-start, settling-over, settling-ready, settling-expandable, settling-no-sets, settling-next, settling-less}
 use mathlib.Core.Path.{_≡_, refl}
