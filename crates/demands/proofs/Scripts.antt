@@ -92,13 +92,17 @@ before-line a (last n u p) = (a, p)
 parsed : {d e : State} {w text : List ℕ} → AtDesk d → Obeys d e text (parse-meaning w)
     → (text ≡ answerLine BAD-TABLE) ⊎ ((R : List Rule) × Run (d .table) R × PrintsVerdict R w text)
 parsed {d} (no-table z) p = inl (bad-table (no-sets-no-table (d .table) z) tt p .0)
-parsed {e = e} (run {R} r) (parses p k) = inr (R, r, record {
-  answer = numberOf (p .verdict .answer);
-  links = p .verdict .links;
-  sets = inUse (view (e .table));
-  printed = p .printed;
-  decides = decides r (p .parses) (λ h. demand2.verdict-by-history h _ _);
-})
+parsed {e = e} (run {R} r) (parses p k) = inr (
+  R,
+  r,
+  record {
+    answer = numberOf (p .verdict .answer);
+    links = p .verdict .links;
+    sets = inUse (view (e .table));
+    printed = p .printed;
+    decides = decides r (p .parses) (λ h. demand2.verdict-by-history h _ _);
+  },
+)
 
 pub script-verdict : {d e : State} {script line text w : List ℕ} → LineOf blank script d line e text → Means line (parse-meaning w)
     → (text ≡ answerLine BAD-TABLE) ⊎ ((R : List Rule) × Run (d .table) R × PrintsVerdict R w text)
