@@ -45,7 +45,13 @@ unfolding linksIn
 at-start {size = size} {line = line} {m = m} {b = b} {c = c} f s (e, held) = record {
   low = omega arith;
   kept = kept-none f;
-  stands = record { formed = f; sets = s; held = held; in-pool = ap (λ c. c .over) e; grounded = subst (Grounded _ 0) (sym none) (grounded _) };
+  stands = record {
+    formed = f;
+    sets = s;
+    held = held;
+    in-pool = ap (λ c. c .over) e;
+    grounded = subst (Grounded _ 0) (sym none) (grounded _);
+  };
   reaches = subst (λ l. Reaches size (view m) 0 [] line (view m) 0 l line) (sym none) there;
 }
   where
@@ -79,7 +85,8 @@ module _ {size sets : ℕ} {line : List ℕ} {m : Mem} {p start : ℕ} {n : Mem}
   }
 
   module _ (l : p < length line) where
-    pub at-next : {n′ : Mem} {z : Graph} {s : ℕ} → Advances (here p start size sets) (getD line p 0) n y s n′ z → At size sets line m (p + 1) s n′ z
+    pub at-next : {n′ : Mem} {z : Graph} {s : ℕ} → Advances (here p start size sets) (getD line p 0) n y s n′ z
+        → At size sets line m (p + 1) s n′ z
     at-next {n′} {z} A = record {
       low = omega arith;
       kept = kept-trans (I .kept) (A .kept);

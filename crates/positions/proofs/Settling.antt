@@ -97,8 +97,8 @@ module _ {h : Here} {m : Mem} {x : Graph} {n : Mem} {y z : Graph} (I : Settling 
       settling-no-sets {r = r} X q = record {
         kept = kept-trans (I .kept) (kept-expanded settling-expandable X);
         refusal = omega arith;
-        steps = λ l.
-            reaches-leads (I .reaches l) _ (no-sets saturated fits w (sym (X .done) ∙ not-true r q) (ap (outcome 20 0) (sym (X .table .seen))));
+        steps = λ l. reaches-leads (I .reaches l) _
+            (no-sets saturated fits w (sym (X .done) ∙ not-true r q) (ap (outcome 20 0) (sym (X .table .seen))));
       }
 
       module _ {n′ : Mem} {r : Bool} (X : Expands n n′ u r) (q : not r ≡ false) where
@@ -128,5 +128,6 @@ module _ {h : Here} {m : Mem} {x : Graph} {n : Mem} {y z : Graph} (I : Settling 
 
         pub settling-less : turnsLeft (view n′) (linksOf z) p < turnsLeft t (linksOf y) p
         settling-less = fewer-turns t (view n′) (linksOf y) (linksOf z) p u
-            (λ s i. node-reach (I .stands .grounded) (in-nodesAt (linksOf y) p .0 i)) later (λ l i. saturated .all l .1 (given i)) (w .here) (w .unexpanded)
+            (λ s i. node-reach (I .stands .grounded) (in-nodesAt (linksOf y) p .0 i)) later (λ l i. saturated .all l .1 (given i))
+            (w .here) (w .unexpanded)
             (expand-expanded settling-expandable X done)

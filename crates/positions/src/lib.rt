@@ -106,8 +106,9 @@ fn advance(
 ) -> Advanced
     requires { ⌜ Stands here (mem (now rules) (now cells) (now words)) (graph (now buf) (now at) c) × (length (now work) ≡ 12291) ⌝ }
     requires { ⌜ (here .position < 255) × ((1 ≤ token) × (token < 128)) ⌝ }
-    ensures { λ r. ⌜ AdvancesOr here token (mem (now (rules .entry)) (now (cells .entry)) (now (words .entry))) (graph (now (buf .entry)) (now (at .entry)) c)
-        (mem (now (rules .exit)) (now (cells .exit)) (now (words .exit))) (now (buf .exit)) (now (at .exit)) r ⌝ }
+    ensures { λ r. ⌜ AdvancesOr here token (mem (now (rules .entry)) (now (cells .entry)) (now (words .entry)))
+        (graph (now (buf .entry)) (now (at .entry)) c) (mem (now (rules .exit)) (now (cells .exit)) (now (words .exit)))
+        (now (buf .exit)) (now (at .exit)) r ⌝ }
 {
     let s = settle(rules, cells, words, buf, at, work, c, here);
     match s {
@@ -129,8 +130,8 @@ fn move_on(
 ) -> Advanced
     requires { ⌜ Stands here (mem (now rules) (now cells) (now words)) (graph (now buf) (now at) c) ⌝ }
     requires { ⌜ (here .position < 255) × ((1 ≤ token) × (token < 128)) ⌝ }
-    ensures { λ r. ⌜ MovesOn here token (mem (now (rules .entry)) (now (cells .entry)) (now (words .entry))) (graph (now (buf .entry)) (now (at .entry)) c)
-        (now (buf .exit)) (now (at .exit)) r ⌝ }
+    ensures { λ r. ⌜ MovesOn here token (mem (now (rules .entry)) (now (cells .entry)) (now (words .entry)))
+        (graph (now (buf .entry)) (now (at .entry)) c) (now (buf .exit)) (now (at .exit)) r ⌝ }
 {
     let d = saturation::shift(buf, at, rules, cells, words, c, here, token);
     if d.over != 0 {
@@ -160,8 +161,9 @@ fn finish(
     here: Here,
 ) -> Verdict
     requires { ⌜ Stands here (mem (now rules) (now cells) (now words)) (graph (now buf) (now at) c) × (length (now work) ≡ 12291) ⌝ }
-    ensures { λ v. ⌜ Finishes here [] (mem (now (rules .entry)) (now (cells .entry)) (now (words .entry))) (graph (now (buf .entry)) (now (at .entry)) c)
-        (mem (now (rules .exit)) (now (cells .exit)) (now (words .exit))) (now (buf .exit)) v ⌝ }
+    ensures { λ v. ⌜ Finishes here [] (mem (now (rules .entry)) (now (cells .entry)) (now (words .entry)))
+        (graph (now (buf .entry)) (now (at .entry)) c) (mem (now (rules .exit)) (now (cells .exit)) (now (words .exit)))
+        (now (buf .exit)) v ⌝ }
 {
     let s = settle(rules, cells, words, buf, at, work, c, here);
     match s {

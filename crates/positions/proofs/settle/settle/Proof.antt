@@ -134,103 +134,72 @@ expand-requires c κs =
     settling-expandable (loop .inv .1) (saturate .ensures) (let h = if1 .left in omega arith)
     (waiting-at (first-waiting .ensures) (f .given .1))
 
-abbrev at-expand : tie.Then2 Inv-loop μ-loop → tie.After-expand Inv-loop μ-loop
+abbrev at-expand : tie.After-slice-known12 Inv-loop μ-loop → tie.After-expand Inv-loop μ-loop
 at-expand c =
-    let slice-known11 = c .before .before .before in
+    let slice-known11 = c .before .before in
     let rules = slice-known11 .before .before .before in
     rules .before
 
-abbrev at-f : tie.Then2 Inv-loop μ-loop → tie.After-f Inv-loop μ-loop
+abbrev at-f : tie.After-slice-known12 Inv-loop μ-loop → tie.After-f Inv-loop μ-loop
 at-f c =
     let expand-arg = at-expand c .before .before .before in
     expand-arg .before .before
 
-abbrev at-first-waiting : tie.Then2 Inv-loop μ-loop → tie.After-first-waiting Inv-loop μ-loop
+abbrev at-first-waiting : tie.After-slice-known12 Inv-loop μ-loop → tie.After-first-waiting Inv-loop μ-loop
 at-first-waiting c = at-f c .before .before
 
-abbrev at-if1 : tie.Then2 Inv-loop μ-loop → tie.Else1 Inv-loop μ-loop
+abbrev at-if1 : tie.After-slice-known12 Inv-loop μ-loop → tie.Else1 Inv-loop μ-loop
 at-if1 c =
     let first-waiting-arg2 = at-first-waiting c .before .before .before in
     first-waiting-arg2 .before .before
 
-abbrev at-saturate : tie.Then2 Inv-loop μ-loop → tie.After-saturate Inv-loop μ-loop
+abbrev at-saturate : tie.After-slice-known12 Inv-loop μ-loop → tie.After-saturate Inv-loop μ-loop
 at-saturate c =
     let work = at-if1 c .before .before .before in
     let slice-known7 = work .before .before .before in
     slice-known7 .before .before
 
-abbrev at-loop : tie.Then2 Inv-loop μ-loop → tie.At-loop Inv-loop μ-loop
+abbrev at-loop : tie.After-slice-known12 Inv-loop μ-loop → tie.At-loop Inv-loop μ-loop
 at-loop c =
     let saturate-arg4 = at-saturate c .before .before .before in
     let saturate-arg = saturate-arg4 .before .before .before in
     saturate-arg .before
 
-abbrev at-expand′ : tie.Else2 Inv-loop μ-loop → tie.After-expand Inv-loop μ-loop
-at-expand′ c =
-    let slice-known11 = c .before .before .before in
-    let rules = slice-known11 .before .before .before in
-    rules .before
-
-abbrev at-f′ : tie.Else2 Inv-loop μ-loop → tie.After-f Inv-loop μ-loop
-at-f′ c =
-    let expand-arg = at-expand′ c .before .before .before in
-    expand-arg .before .before
-
-abbrev at-first-waiting′ : tie.Else2 Inv-loop μ-loop → tie.After-first-waiting Inv-loop μ-loop
-at-first-waiting′ c = at-f′ c .before .before
-
-abbrev at-if1′ : tie.Else2 Inv-loop μ-loop → tie.Else1 Inv-loop μ-loop
-at-if1′ c =
-    let first-waiting-arg2 = at-first-waiting′ c .before .before .before in
-    first-waiting-arg2 .before .before
-
-abbrev at-saturate′ : tie.Else2 Inv-loop μ-loop → tie.After-saturate Inv-loop μ-loop
-at-saturate′ c =
-    let work = at-if1′ c .before .before .before in
-    let slice-known7 = work .before .before .before in
-    slice-known7 .before .before
-
-abbrev at-loop′ : tie.Else2 Inv-loop μ-loop → tie.At-loop Inv-loop μ-loop
-at-loop′ c =
-    let saturate-arg4 = at-saturate′ c .before .before .before in
-    let saturate-arg = saturate-arg4 .before .before .before in
-    saturate-arg .before
-
 same-length-13 : tie.Need-same-length-13 Inv-loop μ-loop
-same-length-13 c = omega (arith, at-loop c .loop .inv .0 .0)
+same-length-13 c = omega (arith, at-loop (c .before) .loop .inv .0 .0)
 
 same-length-14 : tie.Need-same-length-14 Inv-loop μ-loop
-same-length-14 c = omega (arith, at-loop c .loop .inv .0 .1)
+same-length-14 c = omega (arith, at-loop (c .before) .loop .inv .0 .1)
 
 same-length-15 : tie.Need-same-length-15 Inv-loop μ-loop
-same-length-15 c = omega (arith, at-loop c .loop .inv .0 .2)
+same-length-15 c = omega (arith, at-loop (c .before) .loop .inv .0 .2)
 
 same-length-16 : tie.Need-same-length-16 Inv-loop μ-loop
-same-length-16 c = omega (arith, at-loop c .loop .inv .0 .3)
+same-length-16 c = omega (arith, at-loop (c .before) .loop .inv .0 .3)
 
 same-length-17 : tie.Need-same-length-17 Inv-loop μ-loop
-same-length-17 c = omega (arith, at-loop c .loop .inv .0 .4)
+same-length-17 c = omega (arith, at-loop (c .before) .loop .inv .0 .4)
 
 same-length-18 : tie.Need-same-length-18 Inv-loop μ-loop
-same-length-18 c = omega (arith, at-loop c .loop .inv .0 .5)
+same-length-18 c = omega (arith, at-loop (c .before) .loop .inv .0 .5)
 
 returns-3 : tie.Need-returns-3 Inv-loop μ-loop
 returns-3 c =
-    came-refused (settling-no-sets (at-loop c .loop .inv .1) (at-saturate c .saturate .ensures)
-    (let h = at-if1 c .if1 .left in omega arith)
-    (waiting-at (at-first-waiting c .first-waiting .ensures) (at-f c .f .given .1)) (at-expand c .expand .ensures)
+    came-refused (settling-no-sets (at-loop (c .before) .loop .inv .1) (at-saturate (c .before) .saturate .ensures)
+    (let h = at-if1 (c .before) .if1 .left in omega arith)
+    (waiting-at (at-first-waiting (c .before) .first-waiting .ensures) (at-f (c .before) .f .given .1)) (at-expand (c .before) .expand .ensures)
     (c .if2 .taken))
 
 loop-less : tie.Need-loop-less Inv-loop μ-loop
 loop-less c =
-    settling-less (at-loop′ c .loop .inv .1) (at-saturate′ c .saturate .ensures)
-    (let h = at-if1′ c .if1 .left in omega arith)
-    (waiting-at (at-first-waiting′ c .first-waiting .ensures) (at-f′ c .f .given .1)) (at-expand′ c .expand .ensures)
+    settling-less (at-loop (c .before) .loop .inv .1) (at-saturate (c .before) .saturate .ensures)
+    (let h = at-if1 (c .before) .if1 .left in omega arith)
+    (waiting-at (at-first-waiting (c .before) .first-waiting .ensures) (at-f (c .before) .f .given .1)) (at-expand (c .before) .expand .ensures)
     (c .if2 .left)
 
 loop-again : tie.Need-loop-again Inv-loop μ-loop
 loop-again c = (
-  let same = at-loop′ c .loop .inv .0 in (
+  let same = at-loop (c .before) .loop .inv .0 in (
     omega (arith, same .0),
     omega (arith, same .1),
     omega (arith, same .2),
@@ -238,9 +207,9 @@ loop-again c = (
     omega (arith, same .4),
     omega (arith, same .5),
   ),
-  settling-next (at-loop′ c .loop .inv .1) (at-saturate′ c .saturate .ensures)
-      (let h = at-if1′ c .if1 .left in omega arith)
-      (waiting-at (at-first-waiting′ c .first-waiting .ensures) (at-f′ c .f .given .1)) (at-expand′ c .expand .ensures)
+  settling-next (at-loop (c .before) .loop .inv .1) (at-saturate (c .before) .saturate .ensures)
+      (let h = at-if1 (c .before) .if1 .left in omega arith)
+      (waiting-at (at-first-waiting (c .before) .first-waiting .ensures) (at-f (c .before) .f .given .1)) (at-expand (c .before) .expand .ensures)
       (c .if2 .left),
 )
 
