@@ -1,5 +1,5 @@
--- Where every cheaper span is right, a span comes out right: its cost is the fewest, its choice that of the first list. The spans at hand
--- need only be closed: with a span, the parts of its best lists. Assumes nothing.
+-- A span comes out right where its parts are: set to its best offer it is told, up to one application more than its parts are. Its parts
+-- are spans inside its own ends; one that is the span itself only makes a list longer. Assumes nothing.
 use mathlib.Core.Path.{_≡_, refl, sym, _∙_, ap, subst}
 use mathlib.Core.Logic.{_≢_, _⊎_, inl, inr, ⊎-elim}
 use mathlib.Core.List.{List, [], _∷_, _++_, append-nil}
@@ -11,194 +11,249 @@ use Rattle.symbols.specs.Symbol.{terminal}
 use Rattle.theory.specs.Derivation.{Grammar}
 use Rattle.leftmost.specs.Leftmost.{Before}
 use Rattle.leftmost.specs.Leftmost.Before.{lower, later}
-use Rattle.leftmost.specs.Spells.{Spells, Best}
-use Rattle.leftmost.specs.Spells.Spells.{stop, apply, token as pass}
-use Rattle.leftmost.specs.Model.{Found}
-use Rattle.leftmost.specs.Kept.{Kept, Store, Total, Offer, Backed, Sound, Says, SaysAll, Comes}
+use Rattle.leftmost.specs.Within.{Spans, Spells, Best, OfLine}
+use Rattle.leftmost.specs.Within.Spells.{stop, apply, token as pass}
+use Rattle.leftmost.specs.Kept.{Kept, Store, Total, Offer, Sound}
 use Rattle.leftmost.specs.Kept.Total.{end as ended, token as passed, span as spanned}
-use Rattle.leftmost.specs.Kept.Says.{says}
-use Rattle.leftmost.specs.Kept.SaysAll.{end, token, span}
-use Rattle.leftmost.specs.Kept.Comes.{nothing, offered}
-use Rattle.leftmost.proofs.Order.{before-one-way, before-not-same}
-use Rattle.leftmost.proofs.Unique.{best-unique}
-use Rattle.leftmost.proofs.Prefix.{Lefts, apart}
-use Rattle.leftmost.proofs.Fewest.{Placed, FewestOf, fewest-from}
-use Rattle.leftmost.proofs.Fewest.FewestOf.{best, longer}
-use Rattle.leftmost.proofs.Choices.{best-of-rule}
-use Rattle.leftmost.proofs.Cuts.{Cut, best-cut}
-use Rattle.leftmost.proofs.Cuts.Cut.{whole, part}
-use Rattle.leftmost.proofs.Said.{said-spells, all-spells, all-once, Said, SaidAll, said-all}
+use Rattle.leftmost.specs.Says.{SaysAll}
+use Rattle.leftmost.specs.Says.SaysAll.{end, token, span}
+use Rattle.leftmost.specs.Comes.{NoWorse, Comes}
+use Rattle.leftmost.specs.Comes.Comes.{nothing, offered}
+use Rattle.leftmost.specs.Cells.{Cut, Told, Right}
+use Rattle.leftmost.specs.Cells.Cut.{whole, part}
+use Rattle.leftmost.specs.Cells.Right.{told, void}
+use Rattle.leftmost.proofs.Order.{before-not-same, before-one-way, before-then, together, low-or-high}
+use Rattle.leftmost.proofs.Parts.{not-both, forward}
+use Rattle.leftmost.proofs.Said.{some-cost, all-once, no-tokens, said-all, all-spells}
+use Rattle.leftmost.proofs.Inner.{Is}
 
--- what is kept is the fewest and the first, where that fits the buffer, and nothing where it doesn't
-pub data Right (G : Grammar) (line : List ℕ) (most x i j : ℕ) (k : Kept) : Type 0 where
-  told : {r : ℕ} {qs : List ℕ} → Best G line (x ∷ []) i j (r ∷ qs) → suc (length qs) ≤ most → k .cost ≡ suc (length qs) → k .rule ≡ r
-      → Cut G line (G .right r) i (k .ends) j qs → Right G line most x i j k
-  void : ((qs : List ℕ) → Spells G line (x ∷ []) i j qs → most < length qs) → k .cost ≡ 0 → Right G line most x i j k
+-- neither list comes after the other, through a third
+not-after : {a b c : List ℕ} → (a ≡ b) ⊎ Before a b → (b ≡ c) ⊎ Before b c → (a ≡ c) ⊎ Before a c
+not-after (inl e) (inl q) = inl (e ∙ q)
+not-after {c = c} (inl e) (inr q) = inr (subst (λ z. Before z c) (sym e) q)
+not-after {a} (inr p) (inl q) = inr (subst (Before a) q p)
+not-after (inr p) (inr q) = inr (before-then p q)
 
--- every non-terminal of ys, from i, ending at the places ms, is a span at hand
-pub data Children (S : ℕ → ℕ → ℕ → Type 0) : List ℕ → ℕ → List ℕ → Type 0 where
-  childless : {i : ℕ} → Children S [] i []
-  a-leaf : {y i m : ℕ} {ys ms : List ℕ} → T (terminal y) → Children S ys m ms → Children S (y ∷ ys) i (m ∷ ms)
-  a-span : {y i m : ℕ} {ys ms : List ℕ} → S y i m → Children S ys m ms → Children S (y ∷ ys) i (m ∷ ms)
+module _ {G : Grammar} {line : List ℕ} {S : Spans} where
+  -- the list of a token is empty
+  token-best : {y i : ℕ} → T (terminal y) → i < length line → getD line i 0 ≡ y → Best G line S (y ∷ []) i (suc i) []
+  token-best t h e = record { spells = pass t h e stop; least = λ qs s. omega arith; first = λ qs s w. inl (none qs w) }
+    where
+      none : (qs : List ℕ) → length qs ≡ 0 → [] ≡ qs
+      none [] w = refl
+      none (q ∷ qs) w = absurd (omega arith)
 
--- the spans at hand are of non-terminals, and have their parts with them
-pub record Closed (G : Grammar) (line : List ℕ) (S : ℕ → ℕ → ℕ → Type 0) : Type 0 where
-  pub symbols : {x i j : ℕ} → S x i j → T (terminal x) → ⊥
-  pub parts : {x i j : ℕ} {ms qs : List ℕ} (r : ℕ) → S x i j → T (G .current r) → G .left r ≡ x → Cut G line (G .right r) i ms j qs → Children S (G .right r) i ms
+-- the bests of the symbols ys, which end at `ends`, against a list qs of theirs
+record Adds (G : Grammar) (line : List ℕ) (S : Spans) (σ : Store) (ys : List ℕ) (i j : ℕ) (qs : List ℕ) : Type 0 where
+  ends : List ℕ
+  list : List ℕ
+  total : Total line σ ys i ends j (length list)
+  says : SaysAll G line σ ys i ends j list
+  cut : Cut G line S ys i ends j list
+  low : length list ≤ length qs
+  order : length list ≡ length qs → (list ≡ qs) ⊎ Before list qs
 
--- a span's cost and list, as they are to be
-pub record Is (G : Grammar) (line : List ℕ) (σ : Store) (x i j : ℕ) (rs : List ℕ) : Type 0 where
-  pub cost : σ x i j .cost ≡ length rs
-  pub list : Says G line σ x i j rs
+-- a rule's offer made of them, against a list qs of the span
+record Own (G : Grammar) (line : List ℕ) (S : Spans) (most : ℕ) (σ : Store) (x i j : ℕ) (qs : List ℕ) : Type 0 where
+  rule : ℕ
+  ends : List ℕ
+  rest : List ℕ
+  offer : Offer G line most σ x i j rule ends (length rest)
+  says : SaysAll G line σ (G .right rule) i ends j rest
+  cut : Cut G line S (G .right rule) i ends j rest
+  low : suc (length rest) ≤ length qs
+  order : suc (length rest) ≡ length qs → (rule ∷ rest ≡ qs) ⊎ Before (rule ∷ rest) qs
 
-module _ {G : Grammar} (lefts : Lefts G) {places : ℕ} (placed : Placed G places) {line : List ℕ} (most : ℕ) (σ : Store)
-    {S : ℕ → ℕ → ℕ → Type 0} (closed : Closed G line S) where
-  -- ---- right spans say the best lists
+longer : {G : Grammar} {line : List ℕ} {S : Spans} {most : ℕ} {σ : Store} {x i j : ℕ} {q qs : List ℕ} → Own G line S most σ x i j q
+    → length q < length qs → Own G line S most σ x i j qs
+longer o h =
+    let l = o .low in
+    record {
+      rule = o .rule;
+      ends = o .ends;
+      rest = o .rest;
+      offer = o .offer;
+      says = o .says;
+      cut = o .cut;
+      low = omega arith;
+      order = λ e. absurd (omega arith);
+    }
 
-  -- all spans at hand whose best list is shorter than v are right
-  abbrev pub Cheaper : ℕ → Type 0
-  Cheaper v = (x i j : ℕ) (rs : List ℕ) → S x i j → Best G line (x ∷ []) i j rs → length rs < v → Right G line most x i j (σ x i j)
+module _ {G : Grammar} {line : List ℕ} {S : Spans} (of-line : OfLine line S) {most : ℕ} {σ : Store} (sound : Sound G line S most σ)
+    {x i j : ℕ} (at-hand : S x i j) (n : ℕ)
+    (parts : (y s m : ℕ) (q : List ℕ) → i ≤ s → m ≤ j → S y s m → Spells G line S (y ∷ []) s m q → length q < n
+    → Is G line S σ y s m ⊎ ((y ≡ x) × ((s ≡ i) × (m ≡ j)))) where
+  -- a derivation of the span itself
+  abbrev Shorter : ℕ → Type 0
+  Shorter c = (q : List ℕ) × Spells G line S (x ∷ []) i j q × (length q ≤ c)
 
-  record Adds (ys : List ℕ) (i : ℕ) (ms : List ℕ) (j : ℕ) (qs : List ℕ) : Type 0 where
-    sum : Total line σ ys i ms j (length qs)
-    list : SaysAll G line σ ys i ms j qs
-
-  a-token : {y i m : ℕ} {q : List ℕ} → T (terminal y) → Spells G line (y ∷ []) i m q → ((i < length line) × (getD line i 0 ≡ y)) × ((q ≡ []) × (m ≡ suc i))
-  a-token t (pass u h e stop) = ((h, e), (refl, refl))
-  a-token t (apply r c l s) = absurd (apart lefts r t c l)
-
-  adds : (n : ℕ) → ((y s m : ℕ) (q : List ℕ) → S y s m → Best G line (y ∷ []) s m q → length q ≤ n → Is G line σ y s m q)
-      → {ys ms qs : List ℕ} {i j : ℕ} → Cut G line ys i ms j qs → Children S ys i ms → length qs ≤ n → Adds ys i ms j qs
-  adds n f whole childless h = record { sum = ended; list = end }
-  adds n f {ys = y ∷ ys} {j = j} (part {i = i} {ms = ms} {q = q} {ps = ps} {qs = qs} B c e) (a-leaf t ch) h =
-      let ((a, b), (z, w)) = a-token t (B .spells) in
-      let d : ps ≡ qs = ap (λ u. u ++ ps) (sym z) ∙ e in
-      let r = adds n f c ch (let l = ap length d in omega arith) in
-      subst (λ u. Adds (y ∷ ys) i (u ∷ ms) j qs) (sym w)
-      (subst (λ u. Adds (y ∷ ys) i (suc i ∷ ms) j u) d
-      (record {
-        sum = passed t a b (subst (λ u. Total line σ ys u ms j (length ps)) w (r .sum));
-        list = token t a b (subst (λ u. SaysAll G line σ ys u ms j ps) w (r .list));
+  adds : {ys qs : List ℕ} {s m : ℕ} → Spells G line S ys s m qs → i ≤ s → m ≤ j → length qs < n → Adds G line S σ ys s m qs ⊎ Shorter (length qs)
+  adds stop a b h = inl (record { ends = []; list = []; total = ended; says = end; cut = whole; low = omega arith; order = λ e. inl refl })
+  adds (pass {i = s} t l e d) a b h = ⊎-elim
+      (λ p. inl (record {
+        ends = suc s ∷ p .ends;
+        list = p .list;
+        total = passed t l e (p .total);
+        says = token t l e (p .says);
+        cut = part (token-best t l e) (p .cut) refl;
+        low = p .low;
+        order = p .order;
       }))
-  adds n f (part {y = y} {i = i} {m = m} {q = q} {ps = ps} {qs = qs} B c e) (a-span s ch) h =
-      let l : length q + length ps ≡ length qs = omega (arith, length-append q ps, ap length e) in
-      let b = f y i m q s B (omega arith) in
-      let r = adds n f c ch (omega arith) in
-      let w : σ y i m .cost + length ps ≡ length qs = (let u = b .cost in omega arith) in
-      record { sum = spanned (some-cost (b .list)) (r .sum) w; list = span (b .list) (r .list) e }
+      (λ q. inr q) (adds d (omega arith) b h)
+  adds (apply {x = y} {i = s} {m = m} {j = k} {xs = ys} {ps = ps} {qs = us} {rs = rs} r c l z d f e) a b h =
+      let u = forward d in
+      let v = forward f in
+      let long : length ps + length us ≡ length rs = sym (length-append ps us) ∙ ap length e in
+      let one : Spells G line S (y ∷ []) s m (r ∷ ps) = apply r c l z d stop (append-nil ps) in
+      ⊎-elim
+      (λ w. ⊎-elim (λ p. inl (both w p one long)) (λ (q, g, o). inr (q, g, omega arith)) (adds f (omega arith) b (omega arith)))
+      (λ (p, (q, o)). inr (r ∷ ps, itself p q o one, omega arith)) (parts y s m (r ∷ ps) a (omega arith) z one (omega arith))
     where
-      some-cost : {x i j : ℕ} {rs : List ℕ} → Says G line σ x i j rs → σ x i j .cost ≢ 0
-      some-cost (says z c l s e) = z
+      itself : {q : List ℕ} → y ≡ x → s ≡ i → m ≡ j → Spells G line S (y ∷ []) s m q → Spells G line S (x ∷ []) i j q
+      itself {q} e f g o =
+          subst (λ v. Spells G line S (v ∷ []) i j q) e (subst (λ v. Spells G line S (y ∷ []) v j q) f (subst (λ v. Spells G line S (y ∷ []) s v q) g o))
 
-  is-below : (v : ℕ) → Cheaper v → (n : ℕ) (x i j : ℕ) (rs : List ℕ) → S x i j → Best G line (x ∷ []) i j rs → length rs ≤ n → length rs < v → length rs ≤ most → Is G line σ x i j rs
-  is-below v ch zero x i j rs s B h k m = absurd (no-empty rs (B .spells) (omega arith))
-    where
-      no-empty : (rs : List ℕ) → Spells G line (x ∷ []) i j rs → length rs ≤ 0 → ⊥
-      no-empty rs (pass t a e d) z = closed .symbols s t
-      no-empty rs (apply r c l d) z = omega arith
-  is-below v ch (suc n) x i j rs s B h k m = go (λ y t p q g C o u w. is-below v ch n y t p q g C o u w) (ch x i j rs s B k)
-    where
-      go : ((y t p : ℕ) (q : List ℕ) → S y t p → Best G line (y ∷ []) t p q → length q ≤ n → length q < v → length q ≤ most → Is G line σ y t p q)
-          → Right G line most x i j (σ x i j) → Is G line σ x i j rs
-      go again (void f z) = absurd (let u = f rs (B .spells) in omega arith)
-      go again (told {r = r} {qs = qs} D l z w c) =
-          let e : r ∷ qs ≡ rs = best-unique D B in
-          let (_, (cur, left)) = best-of-rule lefts placed D in
-          let u = ap length e in
-          let a = adds (length qs) (λ y t p q g C o. again y t p q g C (omega arith) (omega arith) (omega arith)) c (closed .parts r s cur left c) (omega arith) in
-          let some : σ x i j .cost ≢ 0 = λ (y : σ x i j .cost ≡ 0). omega arith in
+      both : Is G line S σ y s m → Adds G line S σ ys m k us → Spells G line S (y ∷ []) s m (r ∷ ps) → length ps + length us ≡ length rs
+          → Adds G line S σ (y ∷ ys) s k (r ∷ rs)
+      both w p one long =
+          let n₁ = length-append (w .list) (p .list) in
+          let n₂ = w .best .least (r ∷ ps) one in
+          let n₃ = p .low in
+          let n₄ = w .cost in
+          let sum : σ y s m .cost + length (p .list) ≡ length (w .list ++ p .list) = omega arith in
           record {
-            cost = z ∙ u;
-            list = says some (subst (λ y. T (G .current y)) (sym w) cur) (ap (G .left) w ∙ left)
-                (subst (λ y. SaysAll G line σ (G .right y) i (σ x i j .ends) j qs) (sym w) (a .list)) (ap (λ y. y ∷ qs) w ∙ e);
+            ends = m ∷ p .ends;
+            list = w .list ++ p .list;
+            total = spanned (some-cost (w .says)) (p .total) sum;
+            says = span (w .says) (p .says) refl;
+            cut = part (w .best) (p .cut) refl;
+            low = omega arith;
+            order = λ o. together (w .best .first (r ∷ ps) one (omega arith)) (p .order (omega arith)) (ap (λ v. r ∷ v) e);
           }
 
-  -- ---- what a span comes to
+  -- one application at least, which is at the span's own symbol
+  some : {qs : List ℕ} → Spells G line S (x ∷ []) i j qs → 1 ≤ length qs
+  some (pass t h e s) = absurd (not-both x t (of-line .symbol x i j at-hand))
+  some (apply r cur left z d s e) = omega arith
 
-  module _ (sound : Sound G line most σ) {x i j : ℕ} (at-hand : S x i j) where
-    -- an offer says a derivation of the span
-    record Led (r c : ℕ) (ms : List ℕ) : Type 0 where
-      rest : List ℕ
-      list : SaysAll G line σ (G .right r) i ms j rest
-      spells : Spells G line (x ∷ []) i j (r ∷ rest)
-      short : length rest ≤ c
+  own : (c : ℕ) (qs : List ℕ) → Spells G line S (x ∷ []) i j qs → length qs ≤ c → length qs ≤ n → length qs ≤ most
+      → Own G line S most σ x i j qs
+  own zero qs s k l m = absurd (let h = some s in omega arith)
+  own (suc c) qs s k l m = go (λ q t a b d. own c q t a b d) s k l m
+    where
+      go : ((q : List ℕ) → Spells G line S (x ∷ []) i j q → length q ≤ c → length q ≤ n → length q ≤ most → Own G line S most σ x i j q)
+          → {qs : List ℕ} → Spells G line S (x ∷ []) i j qs → length qs ≤ suc c → length qs ≤ n → length qs ≤ most
+          → Own G line S most σ x i j qs
+      go again (pass t h e s) k l m = absurd (not-both x t (of-line .symbol x i j at-hand))
+      go again (apply {ps = ps} {rs = rs} r cur left z d stop e) k l m =
+          let same : ps ≡ rs = sym (append-nil ps) ∙ e in
+          let u = ap length same in
+          ⊎-elim
+          (λ p.
+          let v = p .low in
+          record {
+            rule = r;
+            ends = p .ends;
+            rest = p .list;
+            offer = record { current = cur; left = left; total = p .total; fits = omega arith };
+            says = p .says;
+            cut = p .cut;
+            low = omega arith;
+            order = λ o. together {a = r ∷ []} (inl refl) (p .order (omega arith)) (ap (λ w. r ∷ w) same);
+          })
+          (λ (q, s, h). longer (again q s (omega arith) (omega arith) (omega arith)) (omega arith))
+          (adds d (omega arith) (omega arith) (omega arith))
 
-    led : {r c : ℕ} {ms : List ℕ} → Offer G line most σ x i j r ms c → Led r c ms
-    led {r} o =
-        let a = said-all sound (o .total) in
-        record {
-          rest = a .list;
-          list = a .is;
-          short = a .short;
-          spells = apply r (o .current) (o .left) (subst (λ z. Spells G line z i j (a .list)) (sym (append-nil (G .right r))) (all-spells (a .is)));
-        }
+  module _ (k : Kept) (c : ℕ) (best : (q d : ℕ) (ns : List ℕ) → Offer G line most σ x i j q ns d
+      → NoWorse G line σ i j (k .rule) (k .ends) c q ns d) where
+    -- no offer has a lower sum, and no derivation fewer applications
+    lowest : {q d : ℕ} {ns : List ℕ} → Offer G line most σ x i j q ns d → c ≤ d
+    lowest {q} {d} {ns} o = ⊎-elim (λ h. omega arith) (λ (h, w). omega arith) (best q d ns o)
 
-    -- where the best list is r and then qs, and all cheaper spans are right
-    module _ {r : ℕ} {qs : List ℕ} (B : Best G line (x ∷ []) i j (r ∷ qs)) (fits : suc (length qs) ≤ most) (cheaper : Cheaper (suc (length qs))) where
-      ms : List ℕ
-      ms = best-cut (G .right r) (best-of-rule lefts placed B .0) .0
+    least-of : (qs : List ℕ) → Spells G line S (x ∷ []) i j qs → length qs ≤ n → length qs ≤ most → suc c ≤ length qs
+    least-of qs s a b =
+        let o = own (length qs) qs s (omega arith) a b in
+        let l = o .low in
+        let m = lowest (o .offer) in
+        omega arith
 
-      cut : Cut G line (G .right r) i ms j qs
-      unfolding ms
-      cut = best-cut (G .right r) (best-of-rule lefts placed B .0) .1
+    -- the list that it says
+    module _ (offer : Offer G line most σ x i j (k .rule) (k .ends) c) (rest : List ℕ)
+        (says : SaysAll G line σ (G .right (k .rule)) i (k .ends) j rest) (short : length rest ≤ c) (below : suc c ≤ n) where
+      -- against the parts' bests of a list of that length: it is theirs, or comes before
+      data Against (r : ℕ) (ms ps : List ℕ) : Type 0 where
+        theirs : k .rule ≡ r → k .ends ≡ ms → rest ≡ ps → Against r ms ps
+        sooner : Before (k .rule ∷ rest) (r ∷ ps) → Against r ms ps
 
-      added : Adds (G .right r) i ms j qs
-      added = adds (length qs) (λ y s m q g C o. is-below (suc (length qs)) cheaper (length qs) y s m q g C o (omega arith) (omega arith)) cut
-          (closed .parts r at-hand (best-of-rule lefts placed B .1 .0) (best-of-rule lefts placed B .1 .1) cut) (omega arith)
-
-      -- the best list's own offer
-      offer : Offer G line most σ x i j r ms (length qs)
-      offer = record { current = best-of-rule lefts placed B .1 .0; left = best-of-rule lefts placed B .1 .1; total = added .sum; fits = fits }
-
-      best-comes : {k : Kept} → Comes G line most σ x i j k → Right G line most x i j k
-      best-comes (nothing z f) = absurd (f r (length qs) ms offer)
-      best-comes {k} (offered {c = c} z o f) = go (led o) (f r (length qs) ms offer)
+      against : {qs : List ℕ} → length qs ≡ suc c → (o : Own G line S most σ x i j qs) → Against (o .rule) (o .ends) (o .rest)
+      against e o = go (best (o .rule) (length (o .rest)) (o .ends) (o .offer))
         where
-          right-of : k .rule ≡ r → k .ends ≡ ms → c ≡ length qs → Right G line most x i j k
-          right-of a b e = told B fits (z ∙ ap suc e) a (subst (λ y. Cut G line (G .right r) i y j qs) (sym b) cut)
+          go : NoWorse G line σ i j (k .rule) (k .ends) c (o .rule) (o .ends) (length (o .rest)) → Against (o .rule) (o .ends) (o .rest)
+          go (inl h) = absurd (let l = o .low in omega arith)
+          go (inr (h, inl w)) = sooner (lower w)
+          go (inr (h, inr (w, inl u))) =
+              let a = subst (λ z. SaysAll G line σ (G .right z) i (k .ends) j rest) w says in
+              let b = subst (λ z. SaysAll G line σ (G .right (o .rule)) i z j (o .rest)) (sym u) (o .says) in
+              theirs w u (all-once (no-tokens sound of-line) a b)
+          go (inr (h, inr (w, inr u))) =
+              let a = u rest (o .rest) (subst (λ z. SaysAll G line σ (G .right z) i (k .ends) j rest) w says) (o .says) in
+              sooner (subst (λ z. Before (k .rule ∷ rest) (z ∷ o .rest)) w (later a))
 
-          go : Led (k .rule) c (k .ends)
-              → (c < length qs) ⊎ ((c ≡ length qs) × ((k .rule < r) ⊎ ((k .rule ≡ r) × ((k .ends ≡ ms)
-              ⊎ ((us ps : List ℕ) → SaysAll G line σ (G .right r) i (k .ends) j us → SaysAll G line σ (G .right r) i ms j ps → Before us ps)))))
-              → Right G line most x i j k
-          go d (inl h) = absurd (let u = B .least (k .rule ∷ d .rest) (d .spells) in let v = d .short in omega arith)
-          go d (inr (e, inl h)) =
-              let u = B .least (k .rule ∷ d .rest) (d .spells) in
-              let v = d .short in
-              absurd (⊎-elim
-              (λ q. let w : r ≡ k .rule = cc in omega arith)
-              (λ q. before-one-way q (lower h))
-              (B .first (k .rule ∷ d .rest) (d .spells) (omega arith)))
-          go d (inr (e, inr (h, inl w))) = right-of h w e
-          go d (inr (e, inr (h, inr w))) =
-              let u = B .least (k .rule ∷ d .rest) (d .spells) in
-              let v = d .short in
-              let b = w (d .rest) qs (subst (λ y. SaysAll G line σ (G .right y) i (k .ends) j (d .rest)) h (d .list)) (added .list) in
-              absurd (⊎-elim
-              (λ q. let y : qs ≡ d .rest = cc in before-not-same (subst (λ l. Before l qs) (sym y) b))
-              (λ q. before-one-way q (subst (λ l. Before (l ∷ d .rest) (r ∷ qs)) (sym h) (later b)))
-              (B .first (k .rule ∷ d .rest) (d .spells) (omega arith)))
+      spells : Spells G line S (x ∷ []) i j (k .rule ∷ rest)
+      spells = apply (k .rule) (offer .current) (offer .left) at-hand (all-spells sound says) stop (append-nil rest)
 
-    -- a span comes out right where every cheaper one is right
-    pub comes-right : ((rs : List ℕ) → Best G line (x ∷ []) i j rs → length rs ≤ most → Cheaper (length rs)) → {k : Kept} → Comes G line most σ x i j k → Right G line most x i j k
-    comes-right cheaper {k} c = go (fewest-from lefts placed line (suc most) 0 (x ∷ []) i j (λ qs s. omega arith))
-      where
-        none-fits : ((qs : List ℕ) → Spells G line (x ∷ []) i j qs → 0 + suc most ≤ length qs) → Comes G line most σ x i j k → Right G line most x i j k
-        none-fits f (nothing z g) = void (λ qs s. let u = f qs s in omega arith) z
-        none-fits f (offered z o g) = absurd (let d = led o in let u = f _ (d .spells) in let v = d .short in let w = o .fits in omega arith)
+      exact : length rest ≡ c
+      exact = let f = offer .fits in let h = least-of (k .rule ∷ rest) spells (omega arith) (omega arith) in omega arith
 
-        fits-one : (rs : List ℕ) → Best G line (x ∷ []) i j rs → length rs ≤ most → Right G line most x i j k
-        fits-one [] B h = absurd (no-list (B .spells))
-          where
-            no-list : Spells G line (x ∷ []) i j [] → ⊥
-            no-list (pass t a e d) = closed .symbols at-hand t
-        fits-one (r ∷ qs) B h = best-comes B h (cheaper (r ∷ qs) B h) c
+      -- a list of that length, against the bests of its parts
+      its-own : (qs : List ℕ) → Spells G line S (x ∷ []) i j qs → length qs ≡ suc c
+          → (o : Own G line S most σ x i j qs) × ((o .rule ∷ o .rest ≡ qs) ⊎ Before (o .rule ∷ o .rest) qs)
+      its-own qs s e =
+          let f = offer .fits in
+          let o = own (length qs) qs s (omega arith) (omega arith) (omega arith) in
+          let l = o .low in
+          let m = lowest (o .offer) in
+          (o, o .order (omega arith))
 
-        go : {d : Found} → FewestOf G line (x ∷ []) i j (0 + suc most) d → Right G line most x i j k
-        go (best {rs = rs} B l) = fits-one rs B (omega arith)
-        go (longer f) = none-fits f c
+      cut-of : Cut G line S (G .right (k .rule)) i (k .ends) j rest
+      cut-of = let (o, p) = its-own (k .rule ∷ rest) spells (ap suc exact) in go p (against (ap suc exact) o) (o .cut)
+        where
+          go : {r : ℕ} {ms ps : List ℕ} → (r ∷ ps ≡ k .rule ∷ rest) ⊎ Before (r ∷ ps) (k .rule ∷ rest) → Against r ms ps
+              → Cut G line S (G .right r) i ms j ps → Cut G line S (G .right (k .rule)) i (k .ends) j rest
+          go {r} {ms} p (theirs a b e) u =
+              subst (λ z. Cut G line S (G .right z) i (k .ends) j rest) (sym a)
+              (subst (λ z. Cut G line S (G .right r) i z j rest) (sym b) (subst (λ z. Cut G line S (G .right r) i ms j z) (sym e) u))
+          go (inl e) (sooner w) u = absurd (before-not-same (subst (Before (k .rule ∷ rest)) e w))
+          go (inr v) (sooner w) u = absurd (before-one-way v w)
 
-  -- where all are right, every span whose fewest fits has its cost and says its list
-  pub all-say : ((x i j : ℕ) → S x i j → Right G line most x i j (σ x i j))
-      → (x i j : ℕ) (rs : List ℕ) → S x i j → Best G line (x ∷ []) i j rs → length rs ≤ most → Is G line σ x i j rs
-  all-say right x i j rs s B h = is-below (suc (length rs)) (λ y t m qs g C o. right y t m g) (length rs) x i j rs s B (omega arith) (omega arith) h
+      told-of : k .cost ≡ suc c → Told G line S most x i j k
+      told-of cost = record {
+        rest = rest;
+        best = record { spells = spells; least = least; first = λ qs s e. first qs s (e ∙ ap suc exact) };
+        cost = cost ∙ ap suc (sym exact);
+        fits = (let f = offer .fits in let e = exact in omega arith);
+        cut = cut-of;
+      }
+        where
+          least : (qs : List ℕ) → Spells G line S (x ∷ []) i j qs → suc (length rest) ≤ length qs
+          least qs s = ⊎-elim
+              (λ h. let f = offer .fits in let l = least-of qs s (omega arith) (omega arith) in absurd (omega arith))
+              (λ h. omega arith) (low-or-high (length qs) c)
+
+          first : (qs : List ℕ) → Spells G line S (x ∷ []) i j qs → length qs ≡ suc c → (k .rule ∷ rest ≡ qs) ⊎ Before (k .rule ∷ rest) qs
+          first qs s e = let (o, p) = its-own qs s e in not-after (ahead (against e o)) p
+            where
+              ahead : {r : ℕ} {ms ps : List ℕ} → Against r ms ps → (k .rule ∷ rest ≡ r ∷ ps) ⊎ Before (k .rule ∷ rest) (r ∷ ps)
+              ahead (theirs a b e) = inl (cc)
+              ahead (sooner w) = inr w
+
+  -- set to what it comes to, the span is right
+  pub comes-right : {k : Kept} → Comes G line most σ x i j k → (u : ℕ) → u ≤ suc n → u ≤ suc most → Right G line S most u x i j k
+  comes-right (nothing z f) u a b = void (λ qs s. ⊎-elim
+      (λ h. h)
+      (λ h. let o = own (length qs) qs s (omega arith) (omega arith) (omega arith) in absurd (f (o .rule) _ (o .ends) (o .offer)))
+      (low-or-high u (length qs)))
+  comes-right {k} (offered {c = c} z o f) u a b = ⊎-elim
+      (λ h. void (λ qs s. ⊎-elim (λ g. g) (λ g. let l = least-of k c f qs s (omega arith) (omega arith) in absurd (omega arith)) (low-or-high u (length qs))))
+      (λ h. let p = said-all sound (o .total) in told (told-of k c f o (p .list) (p .is) (p .short) (omega arith) z))
+      (low-or-high u (suc c))

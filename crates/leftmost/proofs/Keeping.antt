@@ -7,14 +7,11 @@ use native.Mathlib.Omega.{arith}
 use lib.Dec.{T}
 use lib.ListN.{length}
 use Rattle.theory.specs.Derivation.{Grammar}
-use Rattle.leftmost.specs.Kept.{Kept, Store, Total, Offer, Backed, Sound, Comes}
+use Rattle.leftmost.specs.Within.{Spans}
+use Rattle.leftmost.specs.Kept.{Kept, Store, Sets, Total, Offer, Backed, Sound}
 use Rattle.leftmost.specs.Kept.Total.{end, token, span}
-use Rattle.leftmost.specs.Kept.Comes.{nothing, offered}
-
--- τ is σ with k at the span (x, i, j)
-pub record Sets (σ τ : Store) (x i j : ℕ) (k : Kept) : Type 0 where
-  pub at : τ x i j ≡ k
-  pub each : (y s m : ℕ) → ((y ≡ x) × ((s ≡ i) × (m ≡ j))) ⊎ (τ y s m ≡ σ y s m)
+use Rattle.leftmost.specs.Comes.{Comes}
+use Rattle.leftmost.specs.Comes.Comes.{nothing, offered}
 
 -- what had a cost has one still, and no higher one
 abbrev pub Lower : Store → Store → Type 0
@@ -34,8 +31,8 @@ less {τ = τ} l (span {y = y} {i = i} {m = m} z s e) =
     let (u, v) = l y i m z in
     record { sum = τ y i m .cost + a .sum; total = span u (a .total) refl; low = (let w = a .low in omega arith) }
 
-module _ {G : Grammar} {line : List ℕ} {most : ℕ} {σ τ : Store} {x i j : ℕ} {k : Kept}
-    (sound : Sound G line most σ) (comes : Comes G line most σ x i j k) (sets : Sets σ τ x i j k) where
+module _ {G : Grammar} {line : List ℕ} {S : Spans} {most : ℕ} {σ τ : Store} {x i j : ℕ} {k : Kept} (at-hand : S x i j)
+    (sound : Sound G line S most σ) (comes : Comes G line most σ x i j k) (sets : Sets σ τ x i j k) where
   lower-at : σ x i j .cost ≢ 0 → (k .cost ≢ 0) × (k .cost ≤ σ x i j .cost)
   lower-at z = go comes
     where
@@ -61,27 +58,27 @@ module _ {G : Grammar} {line : List ℕ} {most : ℕ} {σ τ : Store} {x i j : �
       let f = o .fits in
       (a .sum, record { current = o .current; left = o .left; total = a .total; fits = omega arith }, l)
 
-  backed-at : k .cost ≢ 0 → Backed G line most τ x i j
+  backed-at : k .cost ≢ 0 → Backed G line S most τ x i j
   backed-at z = go comes
     where
-      go : Comes G line most σ x i j k → Backed G line most τ x i j
+      go : Comes G line most σ x i j k → Backed G line S most τ x i j
       go (nothing e f) = absurd (z e)
       go (offered {c = c} e o f) =
           let (d, p, h) = offer-still o in
           let q : suc d ≤ τ x i j .cost = (let w = ap (λ t. t .cost) (sets .at) in omega arith) in
-          record { sum = d; offer = subst (λ t. Offer G line most τ x i j (t .rule) (t .ends) d) (sym (sets .at)) p; enough = q }
+          record { within = at-hand; sum = d; offer = subst (λ t. Offer G line most τ x i j (t .rule) (t .ends) d) (sym (sets .at)) p; enough = q }
 
-  pub sound-kept : Sound G line most τ
+  pub sound-kept : Sound G line S most τ
   sound-kept y s m = ⊎-elim
       (λ (a, (b, c)).
-      subst (λ y. τ y s m .cost ≢ 0 → Backed G line most τ y s m) (sym a)
-      (subst (λ s. τ x s m .cost ≢ 0 → Backed G line most τ x s m) (sym b)
-      (subst (λ m. τ x i m .cost ≢ 0 → Backed G line most τ x i m) (sym c)
+      subst (λ y. τ y s m .cost ≢ 0 → Backed G line S most τ y s m) (sym a)
+      (subst (λ s. τ x s m .cost ≢ 0 → Backed G line S most τ x s m) (sym b)
+      (subst (λ m. τ x i m .cost ≢ 0 → Backed G line S most τ x i m) (sym c)
       (λ w. backed-at (λ v. w (ap (λ t. t .cost) (sets .at) ∙ v))))))
       (λ e z.
       let b = sound y s m (λ w. z (ap (λ t. t .cost) e ∙ w)) in
       let (d, p, h) = offer-still (b .offer) in
       let u = b .enough in
       let q : suc d ≤ τ y s m .cost = (let w = ap (λ t. t .cost) e in omega arith) in
-      record { sum = d; offer = subst (λ t. Offer G line most τ y s m (t .rule) (t .ends) d) (sym e) p; enough = q })
+      record { within = b .within; sum = d; offer = subst (λ t. Offer G line most τ y s m (t .rule) (t .ends) d) (sym e) p; enough = q })
       (sets .each y s m)

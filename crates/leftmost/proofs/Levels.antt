@@ -11,28 +11,16 @@ use lib.ListN.{length, getD}
 use Rattle.symbols.specs.Symbol.{terminal}
 use Rattle.theory.specs.Derivation.{Grammar}
 use Rattle.leftmost.specs.Leftmost.{Before}
-use Rattle.leftmost.specs.Kept.{Kept, Store, Total, Offer, Says, SaysAll, Precedes, Comes}
+use Rattle.leftmost.specs.Kept.{Kept, Store, Total, Offer, NoTokens}
 use Rattle.leftmost.specs.Kept.Total.{end as ended, token as passed, span as spanned}
-use Rattle.leftmost.specs.Kept.Says.{says}
-use Rattle.leftmost.specs.Kept.SaysAll.{end, token, span}
-use Rattle.leftmost.specs.Kept.Comes.{nothing, offered}
+use Rattle.leftmost.specs.Says.{Says, SaysAll, Ahead, Precedes}
+use Rattle.leftmost.specs.Says.SaysAll.{token, span}
+use Rattle.leftmost.specs.Comes.{Comes}
+use Rattle.leftmost.specs.Comes.Comes.{offered}
+use Rattle.leftmost.specs.Levels.{Leads, Level}
 use Rattle.leftmost.proofs.Order.{before-longer, before-after, low-or-high}
-use Rattle.leftmost.proofs.Prefix.{Lefts, apart}
-use Rattle.leftmost.proofs.Said.{said-once}
+use Rattle.leftmost.proofs.Said.{not-said, said-once}
 use Rattle.leftmost.proofs.Walked.{precedes-before}
-
--- the lists said with the ends ms come before those said with ns
-abbrev pub Ahead : Grammar → List ℕ → Store → List ℕ → ℕ → ℕ → List ℕ → List ℕ → Type 0
-Ahead G line σ ys i j ms ns = (qs ps : List ℕ) → SaysAll G line σ ys i ms j qs → SaysAll G line σ ys i ns j ps → Before qs ps
-
--- of all ends for ys from i to j, none has a lower sum than ms, and those of the same sum come after
-pub record Leads (G : Grammar) (line : List ℕ) (σ : Store) (ys : List ℕ) (i j : ℕ) (ms : List ℕ) (c : ℕ) : Type 0 where
-  pub total : Total line σ ys i ms j c
-  pub first : (ns : List ℕ) (d : ℕ) → Total line σ ys i ns j d → (c < d) ⊎ ((c ≡ d) × ((ms ≡ ns) ⊎ Ahead G line σ ys i j ms ns))
-
--- a level: of each position from which ys goes to j within the buffer, the ends that lead
-pub record Level (G : Grammar) (line : List ℕ) (most : ℕ) (σ : Store) (ys : List ℕ) (j : ℕ) (leader : ℕ → List ℕ) (sum : ℕ → ℕ) : Type 0 where
-  pub there : (i : ℕ) (ns : List ℕ) (d : ℕ) → Total line σ ys i ns j d → d ≤ most → Leads G line σ ys i j (leader i) (sum i)
 
 -- what a non-terminal and the symbols after it say
 record Parted (G : Grammar) (line : List ℕ) (σ : Store) (y : ℕ) (ys : List ℕ) (i m : ℕ) (ms : List ℕ) (j : ℕ) (qs : List ℕ) : Type 0 where
@@ -47,7 +35,7 @@ parted : {G : Grammar} {line : List ℕ} {σ : Store} {y i m j : ℕ} {ys ms qs 
 parted n (token t h e u) = absurd (n t)
 parted n (span {q = q} {ps = w} s u e) = record { front = q; back = w; fronts = s; backs = u; joined = e }
 
-module _ {G : Grammar} (lefts : Lefts G) {line : List ℕ} {σ : Store} where
+module _ {G : Grammar} {line : List ℕ} {σ : Store} (none : NoTokens σ) where
   -- the level above all right places
   pub leads-end : {j : ℕ} → Leads G line σ [] j j [] 0
   leads-end = record { total = ended; first = λ ns d t. go t }
@@ -57,17 +45,17 @@ module _ {G : Grammar} (lefts : Lefts G) {line : List ℕ} {σ : Store} where
 
   -- under a token
   pub leads-token : {y i j c : ℕ} {ys ms : List ℕ} → T (terminal y) → i < length line → getD line i 0 ≡ y
-      → (σ-none : (m : ℕ) → σ y i m .cost ≡ 0) → Leads G line σ ys (suc i) j ms c → Leads G line σ (y ∷ ys) i j (suc i ∷ ms) c
-  leads-token {y} {i} {j} {c} {ys} {ms} t h e z l = record { total = passed t h e (l .total); first = λ ns d w. go w }
+      → Leads G line σ ys (suc i) j ms c → Leads G line σ (y ∷ ys) i j (suc i ∷ ms) c
+  leads-token {y} {i} {j} {c} {ys} {ms} t h e l = record { total = passed t h e (l .total); first = λ ns d w. go w }
     where
       ahead : {ns : List ℕ} → Ahead G line σ ys (suc i) j ms ns → Ahead G line σ (y ∷ ys) i j (suc i ∷ ms) (suc i ∷ ns)
       ahead a qs ps (token t h e u) (token t′ h′ e′ v) = a qs ps u v
-      ahead a qs ps (span (says n c w s q) u p) v = absurd (n (z (suc i)))
-      ahead a qs ps (token t h e u) (span (says n c w s q) v p) = absurd (n (z (suc i)))
+      ahead a qs ps (span s u p) v = absurd (not-said none t s)
+      ahead a qs ps (token t h e u) (span s v p) = absurd (not-said none t s)
 
       go : {d : ℕ} {ns : List ℕ} → Total line σ (y ∷ ys) i ns j d → (c < d) ⊎ ((c ≡ d) × ((suc i ∷ ms ≡ ns) ⊎ Ahead G line σ (y ∷ ys) i j (suc i ∷ ms) ns))
       go (passed t′ h′ e′ w) = ⊎-elim (λ a. inl a) (λ (a, b). inr (a, ⊎-elim (λ q. inl (ap (λ u. suc i ∷ u) q)) (λ q. inr (ahead q)) b)) (l .first _ _ w)
-      go (spanned {m = m} n w q) = absurd (n (z m))
+      go (spanned {m = m} n w q) = absurd (none y i m t n)
 
   -- Under a non-terminal: the span to m is chosen, by the sum with what leads from its end, and then by the walk
   pub leads-span : {y i m j c : ℕ} {ys ms : List ℕ} {most : ℕ} (leader : ℕ → List ℕ) (sum : ℕ → ℕ) → (T (terminal y) → ⊥) → Level G line most σ ys j leader sum
@@ -86,7 +74,7 @@ module _ {G : Grammar} (lefts : Lefts G) {line : List ℕ} {σ : Store} where
           ahead qs ps u v =
               let p = parted n-t u in
               let q = parted n-t v in
-              subst (λ z. Before z ps) (p .joined) (subst (λ z. Before (p .front ++ p .back) z) (ap (λ z. z ++ q .back) (said-once lefts (p .fronts) (q .fronts)) ∙ q .joined)
+              subst (λ z. Before z ps) (p .joined) (subst (λ z. Before (p .front ++ p .back) z) (ap (λ z. z ++ q .back) (said-once none (p .fronts) (q .fronts)) ∙ q .joined)
               (before-after (p .front) (a (p .back) (q .back) (p .backs) (q .backs))))
 
       -- through another end
@@ -94,7 +82,7 @@ module _ {G : Grammar} (lefts : Lefts G) {line : List ℕ} {σ : Store} where
       other-end ns w qs ps u v =
           let p = parted n-t u in
           let q = parted n-t v in
-          subst (λ z. Before z ps) (p .joined) (subst (λ z. Before (p .front ++ p .back) z) (q .joined) (before-longer (precedes-before lefts w (p .fronts) (q .fronts)) (p .back) (q .back)))
+          subst (λ z. Before z ps) (p .joined) (subst (λ z. Before (p .front ++ p .back) z) (q .joined) (before-longer (precedes-before none w (p .fronts) (q .fronts)) (p .back) (q .back)))
 
       go : {d : ℕ} {ns : List ℕ} → Total line σ (y ∷ ys) i ns j d
           → (σ y i m .cost + c < d) ⊎ ((σ y i m .cost + c ≡ d) × ((m ∷ ms ≡ ns) ⊎ Ahead G line σ (y ∷ ys) i j (m ∷ ms) ns))
@@ -110,7 +98,7 @@ module _ {G : Grammar} (lefts : Lefts G) {line : List ℕ} {σ : Store} where
           far : k ≢ m → (σ y i m .cost + c < d) ⊎ ((σ y i m .cost + c ≡ d) × ((m ∷ ms ≡ k ∷ ns) ⊎ Ahead G line σ (y ∷ ys) i j (m ∷ ms) (k ∷ ns)))
           far a = ⊎-elim
               (λ h.
-              let o = level .there k ns e w (omega arith) in
+              let o = level k ns e w (omega arith) in
               let g = o .first ns e w in
               ⊎-elim (λ u. ⊎-elim (λ v. inl (omega arith)) (λ (v, f). inl (omega arith)) g)
               (λ (u, f). ⊎-elim (λ v. absurd (a (sym v))) (λ p. ⊎-elim (λ v. inl (omega arith)) (λ (v, f). inr (omega arith, inr (other-end ns p))) g) f)

@@ -12,16 +12,16 @@ use lib.ListN.{length, getD}
 use Rattle.laws.specs.Choice.{_and_, when}
 use Rattle.laws.proofs.Choice.{when-cases}
 use Rattle.laws.proofs.Tests.{and-both, eqb-iff, ltb-iff}
-use Rattle.symbols.specs.Symbol.{START, terminal}
+use Rattle.symbols.specs.Symbol.{terminal, nonterminal}
 use Rattle.theory.specs.Derivation.{Grammar}
 use Rattle.leftmost.specs.Leftmost.{Tokens, Before, First}
 use Rattle.leftmost.specs.Leftmost.Before.{lower, later}
-use Rattle.leftmost.specs.Spells.{Spells, Best}
-use Rattle.leftmost.specs.Spells.Spells.{stop, token, apply}
+use Rattle.leftmost.specs.Within.{Spells, Best}
+use Rattle.leftmost.specs.Within.Spells.{stop, token, apply}
 use Rattle.leftmost.specs.Model.{Found, or-else, put, lowest, walk, listed, fewestFrom, derivation}
 use Rattle.leftmost.specs.Model.Found.{nothing, some}
-use Rattle.leftmost.proofs.Prefix.{Lefts, apart}
-use Rattle.leftmost.proofs.Walks.{first-best}
+use Rattle.leftmost.proofs.Parts.{not-both, join, split}
+use Rattle.leftmost.proofs.Walks.{Lefts, Any}
 
 -- ---- the first of a set of lists
 
@@ -72,7 +72,7 @@ lowest-first {Q} f h o (suc n) r = first-as
 -- ---- the lists of just c applications
 
 abbrev pub Lists : Grammar → List ℕ → ℕ → List ℕ → ℕ → ℕ → List ℕ → Type 0
-Lists G line c xs i j rs = Spells G line xs i j rs × (length rs ≡ c)
+Lists G line c xs i j rs = Spells G line Any xs i j rs × (length rs ≡ c)
 
 -- those whose next application is the rule r
 record ByRule (G : Grammar) (line : List ℕ) (c x : ℕ) (xs : List ℕ) (i j r : ℕ) (l : List ℕ) : Type 0 where
@@ -80,7 +80,7 @@ record ByRule (G : Grammar) (line : List ℕ) (c x : ℕ) (xs : List ℕ) (i j r
   left : G .left r ≡ x
   rest : List ℕ
   is : r ∷ rest ≡ l
-  spells : Spells G line (G .right r ++ xs) i j rest
+  spells : Spells G line Any (G .right r ++ xs) i j rest
   many : suc (length rest) ≡ c
 
 module _ {G : Grammar} (lefts : Lefts G) (places : ℕ) (below : (r : ℕ) → T (G .current r) → r < places) (line : List ℕ) where
@@ -88,18 +88,18 @@ module _ {G : Grammar} (lefts : Lefts G) (places : ℕ) (below : (r : ℕ) → T
   at-end c i j last z = first-when (last and eqb i j)
       (λ t. let (a, b) = and-both last (eqb i j) .0 t in
       let e = z .0 a in
-      one (subst (λ k. Spells G line [] i k []) (eqb-iff i j .0 b) stop, sym e) (λ qs (s, h). inl (none-left qs (h ∙ e))))
+      one (subst (λ k. Spells G line Any [] i k []) (eqb-iff i j .0 b) stop, sym e) (λ qs (s, h). inl (none-left qs (h ∙ e))))
       (λ qs (s, h). and-both last (eqb i j) .1 (z .1 (sym h ∙ ap length (stopped s .1)), eqb-iff i j .1 (stopped s .0)))
     where
       none-left : (qs : List ℕ) → length qs ≡ 0 → [] ≡ qs
       none-left [] h = refl
       none-left (q ∷ qs) h = absurd (omega arith)
 
-      stopped : {qs : List ℕ} {i j : ℕ} → Spells G line [] i j qs → (i ≡ j) × (qs ≡ [])
+      stopped : {qs : List ℕ} {i j : ℕ} → Spells G line Any [] i j qs → (i ≡ j) × (qs ≡ [])
       stopped stop = (refl, refl)
 
   module _ (last : Bool) (next : List ℕ → ℕ → ℕ → Found) (c : ℕ) (z : T last ↔ (c ≡ 0))
-      (after : (ys : List ℕ) (i j : ℕ) → FirstOf (λ qs. Spells G line ys i j qs × (suc (length qs) ≡ c)) (next ys i j)) where
+      (after : (ys : List ℕ) (i j : ℕ) → FirstOf (λ qs. Spells G line Any ys i j qs × (suc (length qs) ≡ c)) (next ys i j)) where
     by-rule : (x : ℕ) (xs : List ℕ) (i j r : ℕ)
         → FirstOf (ByRule G line c x xs i j r) (when (G .current r and eqb (G .left r) x) (put r (next (G .right r ++ xs) i j)) nothing)
     by-rule x xs i j r = first-when (G .current r and eqb (G .left r) x)
@@ -117,13 +117,21 @@ module _ {G : Grammar} (lefts : Lefts G) (places : ℕ) (below : (r : ℕ) → T
         (lowest-first {Q = ByRule G line c x xs i j} (λ r. when (G .current r and eqb (G .left r) x) (put r (next (G .right r ++ xs) i j)) nothing) (by-rule x xs i j)
         (λ k l q p h s t. subst (λ u. Before u p) (s .is) (subst (λ u. Before (k ∷ s .rest) u) (t .is) (lower h))) places 0)
       where
+        applied : {r : ℕ} {qs : List ℕ} (p : ByRule G line c x xs i j r qs) → Spells G line Any (x ∷ xs) i j (r ∷ p .rest)
+        applied {r} p =
+            let s = split (G .right r) xs (p .spells) in
+            let n = subst (λ y. T (nonterminal y)) (p .left) (lefts .of r (p .current)) in
+            apply r (p .current) (p .left) n (s .fronts) (s .backs) (s .joined)
+
         to : {r : ℕ} {qs : List ℕ} → ByRule G line c x xs i j r qs → Lists G line c (x ∷ xs) i j qs
-        to {r} p = subst (λ u. Lists G line c (x ∷ xs) i j u) (p .is) (apply r (p .current) (p .left) (p .spells), p .many)
+        to {r} p = subst (λ u. Lists G line c (x ∷ xs) i j u) (p .is) (applied p, p .many)
 
         from : (qs : List ℕ) → Lists G line c (x ∷ xs) i j qs → (k : ℕ) × (0 ≤ k) × (k < 0 + places) × ByRule G line c x xs i j k qs
         from qs (token t k e s, h) = absurd (n t)
-        from qs (apply {rs = ps} r a b s, h) = let l = below r a in
-            (r, omega arith, omega arith, record { current = a; left = b; rest = ps; is = refl; spells = s; many = h })
+        from qs (apply {rs = ps} r a b z d s e, h) =
+            let l = below r a in
+            let w = subst (Spells G line Any (G .right r ++ xs) i j) e (join d s) in
+            (r, omega arith, omega arith, record { current = a; left = b; rest = ps; is = refl; spells = w; many = h })
 
     walk-first : (xs : List ℕ) (i j : ℕ) → FirstOf (Lists G line c xs i j) (walk G places line last next xs i j)
     unfolding walk
@@ -136,9 +144,9 @@ module _ {G : Grammar} (lefts : Lefts G) (places : ℕ) (below : (r : ℕ) → T
         (λ qs (s, h). let (a, b) = passed (of-true e) s .0 in and-both (ltb i (length line)) (eqb (getD line i 0) x) .1 (ltb-iff _ _ .1 a, eqb-iff _ _ .1 b)))
         (λ e. by-rules x xs i j (of-false e))
       where
-        passed : {x i j : ℕ} {xs qs : List ℕ} → T (terminal x) → Spells G line (x ∷ xs) i j qs → ((i < length line) × (getD line i 0 ≡ x)) × Spells G line xs (suc i) j qs
+        passed : {x i j : ℕ} {xs qs : List ℕ} → T (terminal x) → Spells G line Any (x ∷ xs) i j qs → ((i < length line) × (getD line i 0 ≡ x)) × Spells G line Any xs (suc i) j qs
         passed t (token u h e s) = ((h, e), s)
-        passed t (apply r a b s) = absurd (apart lefts r t a b)
+        passed {x} t (apply r a b z d s e) = absurd (not-both x t z)
 
   pub listed-first : (c : ℕ) (xs : List ℕ) (i j : ℕ) → FirstOf (Lists G line c xs i j) (listed G places line c xs i j)
   unfolding listed

@@ -3,7 +3,6 @@ use mathlib.Core.Path.{_≡_, refl, sym, _∙_, ap, subst}
 use mathlib.Core.Logic.{_⊎_, inl, inr, ⊎-elim}
 use mathlib.Core.List.{List, [], _∷_, _++_}
 use Prim.Native.Nat.{ℕ, zero, suc, _+_, _≤_, _<_}
-use native.Mathlib.Decide.{ℕ-discrete}
 use native.Mathlib.Omega.{arith}
 use lib.ListN.{length}
 use Rattle.leftmost.specs.Leftmost.{Before}
@@ -33,6 +32,12 @@ before-longer (later b) s t = later (before-longer b s t)
 pub before-after : (p : List ℕ) {s t : List ℕ} → Before s t → Before (p ++ s) (p ++ t)
 before-after [] b = b
 before-after (c ∷ p) b = later (before-after p b)
+
+-- front by front, back by back
+pub together : {a b c d l : List ℕ} → (a ≡ c) ⊎ Before a c → (b ≡ d) ⊎ Before b d → c ++ d ≡ l → (a ++ b ≡ l) ⊎ Before (a ++ b) l
+together {b = b} {c = c} (inl e) (inl q) p = inl (ap (λ z. z ++ b) e ∙ ap (λ z. c ++ z) q ∙ p)
+together {a} {b} {c} {d} (inl e) (inr q) p = inr (subst (λ z. Before (a ++ b) z) p (subst (λ z. Before (z ++ b) (c ++ d)) (sym e) (before-after c q)))
+together {a} {b} {c} {d} (inr q) r p = inr (subst (λ z. Before (a ++ b) z) p (before-longer q b d))
 
 -- ---- numbers
 

@@ -1,103 +1,68 @@
--- A derivation of two forms in a row is one of each in a row; and the best of a whole consists of the bests of its parts.
--- Assumes nothing.
-use mathlib.Core.Path.{_≡_, refl, sym, _∙_, ap, subst}
-use mathlib.Core.Logic.{_⊎_, inl, inr, ⊎-elim}
+-- A derivation of two forms in a row is one of each in a row; and what else is seen from a derivation's shape. Assumes nothing.
+use mathlib.Core.Path.{_≡_, refl, sym, _∙_, ap}
 use mathlib.Core.List.{List, [], _∷_, _++_, append-assoc}
-use Prim.Native.Nat.{ℕ, zero, suc, _+_, _≤_, _<_}
+use Prim.Native.Nat.{ℕ, _≤_}
 use native.Mathlib.Omega.{arith}
 use lib.Dec.{T}
-use lib.ListN.{length, getD, length-append}
-use Rattle.symbols.specs.Symbol.{terminal}
+use lib.ListN.{length}
+use Rattle.symbols.specs.Symbol.{terminal, nonterminal}
 use Rattle.theory.specs.Derivation.{Grammar}
-use Rattle.leftmost.specs.Leftmost.{Before}
-use Rattle.leftmost.specs.Leftmost.Before.{lower, later}
-use Rattle.leftmost.specs.Spells.{Spells, Best}
-use Rattle.leftmost.specs.Spells.Spells.{stop, token, apply}
-use Rattle.leftmost.proofs.Order.{before-not-same, before-longer, before-after}
+use Rattle.theory.proofs.Symbols.{is-terminal, is-nonterminal}
+use Rattle.leftmost.specs.Within.{Spans, Spells}
+use Rattle.leftmost.specs.Within.Spells.{stop, token, apply}
 
--- ---- lists in two parts
-
--- fronts of one length
-pub same-parts : (a q : List ℕ) {b c : List ℕ} → length a ≡ length q → a ++ b ≡ q ++ c → (a ≡ q) × (b ≡ c)
-same-parts [] [] h e = (refl, e)
-same-parts [] (y ∷ q) h e = absurd (omega arith)
-same-parts (x ∷ a) [] h e = absurd (omega arith)
-same-parts (x ∷ a) (y ∷ q) {b} {c} h e =
-    let t : a ++ b ≡ q ++ c = cc in
-    let k : x ≡ y = cc in
-    let (m, n) = same-parts a q (omega arith) t in
-    (cc, n)
-
-pub before-parts : (a q : List ℕ) {b c : List ℕ} → length a ≡ length q → Before (a ++ b) (q ++ c) → Before a q ⊎ ((a ≡ q) × Before b c)
-before-parts [] [] h d = inr (refl, d)
-before-parts [] (y ∷ q) h d = absurd (omega arith)
-before-parts (x ∷ a) [] h d = absurd (omega arith)
-before-parts (x ∷ a) (y ∷ q) h (lower k) = inl (lower k)
-before-parts (x ∷ a) (y ∷ q) h (later d) = ⊎-elim (λ b. inl (later b)) (λ (e, b). inr (ap (λ l. x ∷ l) e, b)) (before-parts a q (omega arith) d)
-
-module _ {G : Grammar} {line : List ℕ} where
-  -- ---- one after the other
-
-  pub join : {xs ys rs qs : List ℕ} {i m j : ℕ} → Spells G line xs i m rs → Spells G line ys m j qs → Spells G line (xs ++ ys) i j (rs ++ qs)
-  join stop s = s
-  join (token t h e d) s = token t h e (join d s)
-  join {ys = ys} {qs = qs} {i = i} {j = j} (apply {xs = xs} {rs = rs} r c l d) s =
-      apply r c l (subst (λ f. Spells G line f i j (rs ++ qs)) (append-assoc (G .right r) xs ys) (join d s))
+-- a symbol is not both
+pub not-both : (x : ℕ) → T (terminal x) → T (nonterminal x) → ⊥
+not-both x t n =
+    let (a, b) = is-terminal x .0 t in
+    let (c, d) = is-nonterminal x .0 n in
+    omega arith
 
 -- where the first form ends, and the rules of each
-pub record Split (G : Grammar) (line xs ys : List ℕ) (i j : ℕ) (rs : List ℕ) : Type 0 where
+pub record Split (G : Grammar) (line : List ℕ) (S : Spans) (xs ys : List ℕ) (i j : ℕ) (rs : List ℕ) : Type 0 where
   pub mid : ℕ
   pub front : List ℕ
   pub back : List ℕ
-  pub fronts : Spells G line xs i mid front
-  pub backs : Spells G line ys mid j back
+  pub fronts : Spells G line S xs i mid front
+  pub backs : Spells G line S ys mid j back
   pub joined : front ++ back ≡ rs
 
-module _ {G : Grammar} {line : List ℕ} where
-  whole : (ys : List ℕ) {zs rs : List ℕ} {i j : ℕ} → ys ≡ zs → Spells G line zs i j rs → Split G line [] ys i j rs
-  whole ys {rs = rs} {i = i} {j = j} e s = record { mid = i; front = []; back = rs; fronts = stop; backs = subst (λ z. Spells G line z i j rs) (sym e) s; joined = refl }
+module _ {G : Grammar} {line : List ℕ} {S : Spans} where
+  pub join : {xs ys rs qs : List ℕ} {i m j : ℕ} → Spells G line S xs i m rs → Spells G line S ys m j qs
+      → Spells G line S (xs ++ ys) i j (rs ++ qs)
+  join stop s = s
+  join (token t h e d) s = token t h e (join d s)
+  join {qs = qs} (apply {ps = ps} {qs = us} r c l z d b e) s =
+      apply r c l z d (join b s) (sym (append-assoc ps us qs) ∙ ap (λ v. v ++ qs) e)
 
-  split-as : {zs rs : List ℕ} {i j : ℕ} → Spells G line zs i j rs → (xs ys : List ℕ) → xs ++ ys ≡ zs → Split G line xs ys i j rs
-  split-as (stop {i = i}) [] ys e = whole ys e stop
-  split-as stop (x ∷ xs) ys e = absurd (let z : _≡_ {A = ℕ} 0 1 = cc in omega arith)
-  split-as (token t h q s) [] ys e = whole ys e (token t h q s)
-  split-as (token {x = y} {i = i} {xs = zs} t h q s) (x ∷ xs) ys e =
-      let k : y ≡ x = cc in
-      let p = split-as s xs ys (cc) in
-      record { mid = p .mid; front = p .front; back = p .back; fronts = subst (λ z. Spells G line (z ∷ xs) i (p .mid) (p .front)) k (token t h q (p .fronts)); backs = p .backs; joined = p .joined }
-  split-as (apply r c l s) [] ys e = whole ys e (apply r c l s)
-  split-as (apply {x = y} {i = i} {xs = zs} r c l s) (x ∷ xs) ys e =
-      let k : y ≡ x = cc in
-      let q : xs ++ ys ≡ zs = cc in
-      let p = split-as s (G .right r ++ xs) ys (append-assoc (G .right r) xs ys ∙ ap (λ z. G .right r ++ z) q) in
-      record { mid = p .mid; front = r ∷ p .front; back = p .back; fronts = apply r c (l ∙ k) (p .fronts); backs = p .backs; joined = ap (λ z. r ∷ z) (p .joined) }
+  pub split : (xs ys : List ℕ) {rs : List ℕ} {i j : ℕ} → Spells G line S (xs ++ ys) i j rs → Split G line S xs ys i j rs
+  split [] ys {rs = rs} {i = i} s = record { mid = i; front = []; back = rs; fronts = stop; backs = s; joined = refl }
+  split (x ∷ xs) ys (token t h e s) =
+      let p = split xs ys s in
+      record { mid = p .mid; front = p .front; back = p .back; fronts = token t h e (p .fronts); backs = p .backs; joined = p .joined }
+  split (x ∷ xs) ys (apply {ps = ps} r c l z d s e) =
+      let p = split xs ys s in
+      record {
+        mid = p .mid;
+        front = r ∷ (ps ++ p .front);
+        back = p .back;
+        fronts = apply r c l z d (p .fronts) refl;
+        backs = p .backs;
+        joined = ap (λ v. r ∷ v) (append-assoc ps (p .front) (p .back) ∙ ap (λ v. ps ++ v) (p .joined) ∙ e);
+      }
 
-  pub split : (xs ys : List ℕ) {rs : List ℕ} {i j : ℕ} → Spells G line (xs ++ ys) i j rs → Split G line xs ys i j rs
-  split xs ys s = split-as s xs ys refl
+  -- a derivation goes forward
+  pub forward : {xs rs : List ℕ} {i j : ℕ} → Spells G line S xs i j rs → i ≤ j
+  forward stop = omega arith
+  forward (token t h e s) = let l = forward s in omega arith
+  forward (apply r c l z d s e) = let a = forward d in let b = forward s in omega arith
 
-  -- ---- the best of a whole consists of the bests of its parts
+  -- of no symbols it has no rules
+  pub no-rules : {rs : List ℕ} {i j : ℕ} → Spells G line S [] i j rs → rs ≡ []
+  no-rules stop = refl
 
-  module _ {xs ys rs : List ℕ} {i j : ℕ} (B : Best G line (xs ++ ys) i j rs) (p : Split G line xs ys i j rs) where
-    pub best-front : Best G line xs i (p .mid) (p .front)
-    best-front = record {
-      spells = p .fronts;
-      least = λ qs s. let h = B .least (qs ++ p .back) (join s (p .backs)) in
-          omega (arith, length-append qs (p .back), length-append (p .front) (p .back), ap length (p .joined));
-      first = λ qs s e.
-          let n : length (qs ++ p .back) ≡ length rs = omega (arith, length-append qs (p .back), length-append (p .front) (p .back), ap length (p .joined)) in
-          ⊎-elim (λ q. inl (same-parts (p .front) qs (sym e) (p .joined ∙ q) .0))
-          (λ b. ⊎-elim (λ d. inr d) (λ (a, d). absurd (before-not-same d)) (before-parts (p .front) qs (sym e) (subst (λ z. Before z (qs ++ p .back)) (sym (p .joined)) b)))
-          (B .first (qs ++ p .back) (join s (p .backs)) n);
-    }
-
-    pub best-back : Best G line ys (p .mid) j (p .back)
-    best-back = record {
-      spells = p .backs;
-      least = λ qs s. let h = B .least (p .front ++ qs) (join (p .fronts) s) in
-          omega (arith, length-append (p .front) qs, length-append (p .front) (p .back), ap length (p .joined));
-      first = λ qs s e.
-          let n : length (p .front ++ qs) ≡ length rs = omega (arith, length-append (p .front) qs, length-append (p .front) (p .back), ap length (p .joined)) in
-          ⊎-elim (λ q. inl (same-parts (p .front) (p .front) refl (p .joined ∙ q) .1))
-          (λ b. ⊎-elim (λ d. absurd (before-not-same d)) (λ (a, d). inr d) (before-parts (p .front) (p .front) refl (subst (λ z. Before z (p .front ++ qs)) (sym (p .joined)) b)))
-          (B .first (p .front ++ qs) (join (p .fronts) s) n);
-    }
+  -- more spans allow more
+  pub more-spans : {R : Spans} → ((x i j : ℕ) → S x i j → R x i j) → {xs rs : List ℕ} {i j : ℕ} → Spells G line S xs i j rs → Spells G line R xs i j rs
+  more-spans h stop = stop
+  more-spans h (token t l e s) = token t l e (more-spans h s)
+  more-spans h (apply r c l z d s e) = apply r c l (h _ _ _ z) (more-spans h d) (more-spans h s) e

@@ -1,24 +1,18 @@
--- The lists of one form are prefix-free: read from the left, the rules fix the form at each step, and with it where the list ends.
--- So two lists of one form are equal, with the same end, or differ at a place that both have. Assumes nothing.
+-- Comparing from the left always decides: read from the left, the rules fix the form at each step, and with it where the list ends. So two
+-- lists of one form from one place are equal, with the same end, or differ at a place that both have. Assumes nothing.
 use mathlib.Core.Path.{_≡_, refl, sym, _∙_, ap, subst}
 use mathlib.Core.Logic.{_≢_, _⊎_, inl, inr, ⊎-elim}
 use mathlib.Core.List.{List, [], _∷_, _++_}
-use Prim.Native.Nat.{ℕ, zero, suc, _≤_, _<_}
+use Prim.Native.Nat.{ℕ, zero, suc, _<_}
 use native.Mathlib.Decide.{ℕ-discrete}
 use native.Mathlib.Omega.{arith}
-use lib.Dec.{T}
-use lib.ListN.{length, getD}
-use Rattle.symbols.specs.Symbol.{terminal, nonterminal}
 use Rattle.theory.specs.Derivation.{Grammar}
-use Rattle.theory.proofs.Symbols.{is-terminal, is-nonterminal}
 use Rattle.leftmost.specs.Leftmost.{Before}
 use Rattle.leftmost.specs.Leftmost.Before.{lower, later}
-use Rattle.leftmost.specs.Spells.{Spells}
-use Rattle.leftmost.specs.Spells.Spells.{stop, token, apply}
-
--- the left symbols of current rules are non-terminals, as the form has it
-pub record Lefts (G : Grammar) : Type 0 where
-  pub of : (r : ℕ) → T (G .current r) → T (nonterminal (G .left r))
+use Rattle.leftmost.specs.Within.{Spans, Spells, OfLine}
+use Rattle.leftmost.specs.Within.Spells.{stop, token, apply}
+use Rattle.leftmost.proofs.Order.{before-longer, before-after}
+use Rattle.leftmost.proofs.Parts.{not-both}
 
 -- how two lists of one form stand: the same, or one before the other
 pub data Ordered (rs qs : List ℕ) (j k : ℕ) : Type 0 where
@@ -26,37 +20,44 @@ pub data Ordered (rs qs : List ℕ) (j k : ℕ) : Type 0 where
   first : Before rs qs → Ordered rs qs j k
   second : Before qs rs → Ordered rs qs j k
 
--- a symbol is not both
-pub apart : {G : Grammar} → Lefts G → {x : ℕ} (r : ℕ) → T (terminal x) → T (G .current r) → G .left r ≡ x → ⊥
-apart {G} lefts {x} r t c e =
-    let (a, b) = is-terminal x .0 t in
-    let (d, f) = is-nonterminal (G .left r) .0 (lefts .of r c) in
-    omega arith
-
-on : {c : ℕ} {rs qs : List ℕ} {j k : ℕ} → Ordered rs qs j k → Ordered (c ∷ rs) (c ∷ qs) j k
-on {c} (same e f) = same (ap (λ l. c ∷ l) e) f
-on (first b) = first (later b)
-on (second b) = second (later b)
-
-pub either-way : (a b : ℕ) → a ≢ b → (a < b) ⊎ (b < a)
+either-way : (a b : ℕ) → a ≢ b → (a < b) ⊎ (b < a)
 either-way zero zero n = absurd (n refl)
 either-way zero (suc b) n = inl (omega arith)
 either-way (suc a) zero n = inr (omega arith)
 either-way (suc a) (suc b) n = ⊎-elim (λ h. inl (omega arith)) (λ h. inr (omega arith)) (either-way a b (λ e. n (ap suc e)))
 
-module _ {G : Grammar} {line : List ℕ} (lefts : Lefts G) where
-  pub ordered : {xs rs qs : List ℕ} {i j k : ℕ} → Spells G line xs i j rs → Spells G line xs i k qs → Ordered rs qs j k
+-- after the same rule: the right side decides, or the rest does
+in-turn : (r : ℕ) {ps us qs vs rs ss : List ℕ} {m n j k : ℕ} → Ordered ps us m n → (m ≡ n → Ordered qs vs j k) → ps ++ qs ≡ rs → us ++ vs ≡ ss
+    → Ordered (r ∷ rs) (r ∷ ss) j k
+in-turn r {ps} {us} {qs} {vs} {rs} {ss} {m} {n} {j} {k} o rest a b =
+    subst (λ l. Ordered (r ∷ l) (r ∷ ss) j k) a (subst (λ l. Ordered (r ∷ (ps ++ qs)) (r ∷ l) j k) b (go o))
+  where
+    after : (us : List ℕ) → Ordered qs vs j k → Ordered (r ∷ (us ++ qs)) (r ∷ (us ++ vs)) j k
+    after us (same e f) = same (ap (λ l. r ∷ (us ++ l)) e) f
+    after us (first c) = first (later (before-after us c))
+    after us (second c) = second (later (before-after us c))
+
+    go : Ordered ps us m n → Ordered (r ∷ (ps ++ qs)) (r ∷ (us ++ vs)) j k
+    go (same e f) = subst (λ l. Ordered (r ∷ (l ++ qs)) (r ∷ (us ++ vs)) j k) (sym e) (after us (rest f))
+    go (first c) = first (later (before-longer c qs vs))
+    go (second c) = second (later (before-longer c vs qs))
+
+module _ {G : Grammar} {line : List ℕ} {S : Spans} (of-line : OfLine line S) where
+  pub ordered : {xs rs qs : List ℕ} {i j k : ℕ} → Spells G line S xs i j rs → Spells G line S xs i k qs → Ordered rs qs j k
   ordered stop stop = same refl refl
   ordered (token t h e s) (token t′ h′ e′ s′) = ordered s s′
-  ordered (token t h e s) (apply r c l s′) = absurd (apart lefts r t c l)
-  ordered (apply r c l s) (token t h e s′) = absurd (apart lefts r t c l)
-  ordered {xs = x ∷ xs} {i = i} {j = j} {k = k} (apply {rs = rs} r c l s) (apply {rs = qs} q d m s′) = elim (ℕ-discrete r q) [
-    | yes e ↦ subst (λ z. Ordered (r ∷ rs) (z ∷ qs) j k) e (on (ordered s (subst (λ z. Spells G line (G .right z ++ xs) i k qs) (sym e) s′)))
+  ordered {xs = x ∷ xs} (token t h e s) (apply r c l z d s′ e′) = absurd (not-both x t (of-line .symbol _ _ _ z))
+  ordered {xs = x ∷ xs} (apply r c l z d s e) (token t h e′ s′) = absurd (not-both x t (of-line .symbol _ _ _ z))
+  ordered {xs = x ∷ xs} {i = i} {j = j} {k = k} (apply {rs = rs} r c l z d s e) (apply {m = n} {ps = us} {qs = vs} {rs = ss} q c′ l′ z′ d′ s′ e′) = elim (ℕ-discrete r q) [
+    | yes w ↦ subst (λ y. Ordered (r ∷ rs) (y ∷ ss) j k) w
+        (in-turn r (ordered d (subst (λ y. Spells G line S (G .right y) i n us) (sym w) d′))
+        (λ f. ordered s (subst (λ y. Spells G line S xs y k vs) (sym f) s′)) e e′)
     | no n ↦ ⊎-elim (λ a. first (lower a)) (λ b. second (lower b)) (either-way r q n)
   ]
 
   -- a list that goes on where another has ended is that list, and makes the same tokens
-  pub prefix-free : {xs rs : List ℕ} {i j k : ℕ} (more : List ℕ) → Spells G line xs i j rs → Spells G line xs i k (rs ++ more) → (more ≡ []) × (j ≡ k)
+  pub prefix-free : {xs rs : List ℕ} {i j k : ℕ} (more : List ℕ) → Spells G line S xs i j rs → Spells G line S xs i k (rs ++ more)
+      → (more ≡ []) × (j ≡ k)
   prefix-free {rs = rs} {j = j} {k = k} more s s′ = go (ordered s s′)
     where
       no-more : (rs more : List ℕ) → rs ≡ rs ++ more → more ≡ []

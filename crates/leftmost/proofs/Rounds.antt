@@ -1,157 +1,174 @@
--- Rounds over the spans of one cell (a start and an end), all others at hand being right: after t rounds every span whose fewest is
--- below t is right. So a round that changes nothing leaves all right, and so do as many rounds as the buffer has places, and one. A lone
--- span is right after one. Assumes nothing.
+-- The rounds of a cell, the cells before it being right: after n rounds every span of the cell is right up to n applications. So a round
+-- that changes nothing leaves all right, and so do more rounds than the buffer has places. A lone span is right after one.
+-- Assumes nothing.
 use mathlib.Core.Path.{_≡_, refl, sym, _∙_, ap, subst}
 use mathlib.Core.Logic.{_≢_, _⊎_, inl, inr, ⊎-elim}
 use mathlib.Core.List.{List, [], _∷_, List·Memᴰ as In, List·Memᴰ·head, List·Memᴰ·tail, List·Memᴰ·cases-cons, List·Memᴰ·not-nil}
-use Prim.Native.Nat.{ℕ, zero, suc, _+_, _≤_, _<_}
+use Prim.Native.Nat.{ℕ, zero, suc, _≤_, _<_}
 use native.Mathlib.Decide.{ℕ-discrete}
 use native.Mathlib.Omega.{arith}
 use lib.ListN.{length}
 use Rattle.theory.specs.Derivation.{Grammar}
-use Rattle.leftmost.specs.Spells.{Spells, Best}
-use Rattle.leftmost.specs.Kept.{Kept, Store, Sound, Comes}
-use Rattle.leftmost.proofs.Unique.{best-unique}
-use Rattle.leftmost.proofs.Prefix.{Lefts}
-use Rattle.leftmost.proofs.Fewest.{Placed}
-use Rattle.leftmost.proofs.Exact.{Right, Closed, comes-right}
-use Rattle.leftmost.proofs.Keeping.{Sets, sound-kept}
+use Rattle.leftmost.specs.Within.{Spans, Spells, OfLine}
+use Rattle.leftmost.specs.Kept.{Kept, Store, Sets}
+use Rattle.leftmost.specs.Comes.{Comes}
+use Rattle.leftmost.specs.Cells.{Told, Right, Cell, Pass, Rounds, Settled, Done, Until}
+use Rattle.leftmost.specs.Cells.Right.{told, void}
+use Rattle.leftmost.specs.Cells.Pass.{through, one}
+use Rattle.leftmost.specs.Cells.Rounds.{none, more}
+use Rattle.leftmost.specs.Cells.Settled.{alone, stable, enough}
+use Rattle.leftmost.proofs.Keeping.{sound-kept}
+use Rattle.leftmost.proofs.Inner.{Is, Inner, told-is}
+use Rattle.leftmost.proofs.Exact.{comes-right}
 
-pub record Span : Type 0 where
-  pub symbol : ℕ
-  pub start : ℕ
-  pub end : ℕ
+-- the spans of the cell (i, j) are right up to n
+abbrev Near : Grammar → List ℕ → Spans → ℕ → ℕ → ℕ → ℕ → Store → Type 0
+Near G line S most i j n σ = (x : ℕ) → S x i j → Right G line S most n x i j (σ x i j)
 
--- the spans es, one after the other, set to what they come to
-pub data Pass (G : Grammar) (line : List ℕ) (most : ℕ) : Store → List Span → Store → Type 0 where
-  through : {σ : Store} → Pass G line most σ [] σ
-  one : {σ τ υ : Store} {e : Span} {es : List Span} (k : Kept) → Comes G line most σ (e .symbol) (e .start) (e .end) k
-      → Sets σ τ (e .symbol) (e .start) (e .end) k → Pass G line most τ es υ → Pass G line most σ (e ∷ es) υ
+-- inside a cell's ends is the cell itself, or one before it
+here-or-before : {i j s m : ℕ} → i ≤ s → m ≤ j → ((s ≡ i) × (m ≡ j)) ⊎ Done (suc i) j s m
+here-or-before {i} {j} {s} {m} a b = elim (ℕ-discrete m j) [
+  | yes e ↦ elim (ℕ-discrete s i) [ yes f ↦ inl (f, e) | no f ↦ inr (inr (e, omega arith)) ]
+  | no e ↦ inr (inl (omega arith))
+]
 
--- so many rounds
-pub data Rounds (G : Grammar) (line : List ℕ) (most : ℕ) (es : List Span) (σ : Store) : ℕ → Store → Type 0 where
-  none : Rounds G line most es σ zero σ
-  more : {t : ℕ} {τ υ : Store} → Rounds G line most es σ t τ → Pass G line most τ es υ → Rounds G line most es σ (suc t) υ
+-- and inside the ends of one before it, only such
+inside : {i j a b s m : ℕ} → Done i j a b → a ≤ s → m ≤ b → Done i j s m
+inside {i} {j} {a} {b} {s} {m} d h k = elim (ℕ-discrete m j) [
+  | yes e ↦ ⊎-elim (λ f. absurd (omega arith)) (λ (f, g). inr (e, omega arith)) d
+  | no e ↦ inl (⊎-elim (λ f. omega arith) (λ (f, g). omega arith) d)
+]
 
--- where its fewest fits the buffer, it is below t
-abbrev pub Low : Grammar → List ℕ → ℕ → ℕ → ℕ → ℕ → ℕ → Type 0
-Low G line most t x i j = (rs : List ℕ) → Best G line (x ∷ []) i j rs → length rs ≤ most → length rs < t
+module _ {G : Grammar} {line : List ℕ} {S : Spans} {most x i j : ℕ} {k : Kept} where
+  right-below : {u v : ℕ} → v ≤ u → Right G line S most u x i j k → Right G line S most v x i j k
+  right-below h (told t) = told t
+  right-below h (void f) = void (λ qs s. let l = f qs s in omega arith)
 
--- the cell from `from` to `here`
-abbrev pub At : ℕ → ℕ → ℕ → ℕ → Type 0
-At from here i j = (i ≡ from) × (j ≡ here)
+  pub is-told : {u : ℕ} {q : List ℕ} → Right G line S most u x i j k → Spells G line S (x ∷ []) i j q → length q < u → Told G line S most x i j k
+  is-told (told t) s h = t
+  is-told {q = q} (void f) s h = absurd (let l = f q s in omega arith)
 
--- sound, and right but for the spans of the cell that are not below t
-pub record Stage (G : Grammar) (line : List ℕ) (most : ℕ) (S : ℕ → ℕ → ℕ → Type 0) (from here t : ℕ) (σ : Store) : Type 0 where
-  pub sound : Sound G line most σ
-  pub right : (x i j : ℕ) → S x i j → (At from here i j → Low G line most t x i j) → Right G line most x i j (σ x i j)
+module _ {G : Grammar} {line : List ℕ} {S : Spans} (of-line : OfLine line S) {most i j : ℕ} where
+  -- ---- a step of a round leaves the cells before right
 
-module _ {G : Grammar} (lefts : Lefts G) {places : ℕ} (placed : Placed G places) {line : List ℕ} (most : ℕ)
-    {S : ℕ → ℕ → ℕ → Type 0} (closed : Closed G line S) (from here : ℕ) where
-  -- the spans of a pass: at hand, and of this cell
-  abbrev pub Ours : List Span → Type 0
-  Ours es = (e : Span) → In e es → S (e .symbol) (e .start) (e .end) × At from here (e .start) (e .end)
+  until-step : {σ τ : Store} {x : ℕ} {k : Kept} → S x i j → Comes G line most σ x i j k → Sets σ τ x i j k
+      → Until G line S most (suc i) j σ → Until G line S most (suc i) j τ
+  until-step {σ} {τ} z c sets u = record {
+    sound = sound-kept z (u .sound) c sets;
+    right = λ y s m p d. ⊎-elim
+        (λ (a, (b, e)). absurd (⊎-elim (λ h. omega arith) (λ (f, g). omega arith) d))
+        (λ e. subst (Right G line S most (suc most) y s m) (sym e) (u .right y s m p d)) (sets .each y s m);
+  }
 
-  module _ (t : ℕ) where
-    -- a span below t + 1 comes out right
-    new : {σ : Store} → Stage G line most S from here t σ → {x i j : ℕ} {k : Kept} → S x i j → Low G line most (suc t) x i j → Comes G line most σ x i j k → Right G line most x i j k
-    new {σ} g s l c = comes-right lefts placed most σ closed (g .sound) s
-        (λ rs B h y u m qs p C o. g .right y u m p (λ z ps D w. let q = ap length (best-unique D C) in let v = l rs B h in omega arith)) c
+  until-pass : {σ υ : Store} {xs : List ℕ} → Pass G line most i j σ xs υ → ((x : ℕ) → In x xs → S x i j)
+      → Until G line S most (suc i) j σ → Until G line S most (suc i) j υ
+  until-pass through o u = u
+  until-pass (one {x = x} k c sets p) o u =
+      until-pass p (λ y m. o y (List·Memᴰ·tail m)) (until-step (o x (List·Memᴰ·head refl)) c sets u)
 
-    -- what is right and below t + 1 stays so, and the spans of the pass become so
-    step : {σ τ : Store} {e : Span} {es : List Span} (k : Kept) → Stage G line most S from here t σ → S (e .symbol) (e .start) (e .end) × At from here (e .start) (e .end)
-        → Comes G line most σ (e .symbol) (e .start) (e .end) k → Sets σ τ (e .symbol) (e .start) (e .end) k
-        → (f : Span) → S (f .symbol) (f .start) (f .end) → (At from here (f .start) (f .end) → Low G line most (suc t) (f .symbol) (f .start) (f .end))
-        → Right G line most (f .symbol) (f .start) (f .end) (σ (f .symbol) (f .start) (f .end)) ⊎ In f (e ∷ es)
-        → Right G line most (f .symbol) (f .start) (f .end) (τ (f .symbol) (f .start) (f .end)) ⊎ In f es
-    step {σ} {τ} {e} {es} k g (s, q) c sets f p l r = ⊎-elim
-        (λ (a, (b, d)). inl (same (λ z. record { symbol = a z; start = b z; end = d z }) l))
-        (λ d. ⊎-elim (λ w. inl (subst (Right G line most (f .symbol) (f .start) (f .end)) (sym d) w))
-        (λ m. ⊎-elim (λ w. inl (same w l)) (λ w. inr w) (List·Memᴰ·cases-cons m)) r)
-        (sets .each (f .symbol) (f .start) (f .end))
+  until-rounds : {σ υ : Store} {xs : List ℕ} {t : ℕ} → Rounds G line most i j xs σ t υ → ((x : ℕ) → In x xs → S x i j)
+      → Until G line S most (suc i) j σ → Until G line S most (suc i) j υ
+  until-rounds none o u = u
+  until-rounds (more r p) o u = until-pass p o (until-rounds r o u)
+
+  -- ---- stages
+
+  module _ {n : ℕ} {σ : Store} (u : Until G line S most (suc i) j σ) (near : Near G line S most i j n σ) where
+    near-inner : n ≤ suc most → Inner G line S most σ i j n
+    near-inner l y s m q a b z d h = ⊎-elim (λ (e, f). is-told (here e f) d h) (λ e. is-told (u .right y s m z e) d (omega arith)) (here-or-before a b)
       where
-        same : {f : Span} → f ≡ e → (At from here (f .start) (f .end) → Low G line most (suc t) (f .symbol) (f .start) (f .end))
-            → Right G line most (f .symbol) (f .start) (f .end) (τ (f .symbol) (f .start) (f .end))
-        same {f} w l = subst (λ f. (At from here (f .start) (f .end) → Low G line most (suc t) (f .symbol) (f .start) (f .end)) → Right G line most (f .symbol) (f .start) (f .end) (τ (f .symbol) (f .start) (f .end))) (sym w)
-            (λ l. subst (Right G line most (e .symbol) (e .start) (e .end)) (sym (sets .at)) (new g s (l q) c)) l
+        here : s ≡ i → m ≡ j → Right G line S most n y s m (σ y s m)
+        here e f =
+            let w = near y (subst (λ v. S y v j) e (subst (S y s) f z)) in
+            subst (λ v. Right G line S most n y v m (σ y v m)) (sym e) (subst (λ v. Right G line S most n y i v (σ y i v)) (sym f) w)
 
-    -- the stage is kept at each step
-    stage-step : {σ τ : Store} {e : Span} (k : Kept) → Stage G line most S from here t σ → S (e .symbol) (e .start) (e .end) × At from here (e .start) (e .end)
-        → Comes G line most σ (e .symbol) (e .start) (e .end) k → Sets σ τ (e .symbol) (e .start) (e .end) k → Stage G line most S from here t τ
-    stage-step {e = e} k g s c sets = record {
-      sound = sound-kept (g .sound) c sets;
-      right = λ x i j p l. ⊎-elim (λ w. w) (λ m. absurd (List·Memᴰ·not-nil m))
-          (step {e = e} {es = []} k g s c sets (record { symbol = x; start = i; end = j }) p (λ z rs B h. let u = l z rs B h in omega arith) (inl (g .right x i j p l)));
-    }
+    -- what comes next is right up to one more
+    next-right : n ≤ most → {x : ℕ} {k : Kept} → S x i j → Comes G line most σ x i j k → Right G line S most (suc n) x i j k
+    next-right l z c = comes-right of-line (u .sound) z n
+        (λ y s m q a b p d h.
+        let inner = near-inner (omega arith) in
+        let t = inner y s m q a b p d h in
+        let w = t .best .least q d in
+        inl (told-is inner a b t (omega arith))) c (suc n) (omega arith) (omega arith)
 
-    passed : {σ υ : Store} {es : List Span} → Pass G line most σ es υ → Ours es → Stage G line most S from here t σ
-        → (f : Span) → S (f .symbol) (f .start) (f .end) → (At from here (f .start) (f .end) → Low G line most (suc t) (f .symbol) (f .start) (f .end))
-        → Right G line most (f .symbol) (f .start) (f .end) (σ (f .symbol) (f .start) (f .end)) ⊎ In f es
-        → Right G line most (f .symbol) (f .start) (f .end) (υ (f .symbol) (f .start) (f .end))
-    passed through o g f p l r = ⊎-elim (λ w. w) (λ m. absurd (List·Memᴰ·not-nil m)) r
-    passed (one {e = e} {es = es} k c sets rest) o g f p l r =
-        let s = o e (List·Memᴰ·head refl) in
-        passed rest (λ d m. o d (List·Memᴰ·tail m)) (stage-step k g s c sets) f p l (step k g s c sets f p l r)
+  -- a step: what is right up to one more stays so, and the span that is set becomes so
+  step-right : {n : ℕ} {σ τ : Store} {x y : ℕ} {xs : List ℕ} {k : Kept} → Sets σ τ x i j k → Right G line S most n x i j k
+      → Right G line S most n y i j (σ y i j) ⊎ In y (x ∷ xs) → Right G line S most n y i j (τ y i j) ⊎ In y xs
+  step-right {n} {σ} {τ} {x} {y} {xs} {k} sets r w = ⊎-elim
+      (λ (a, b). inl (same a))
+      (λ e. ⊎-elim (λ v. inl (subst (Right G line S most n y i j) (sym e) v)) (λ m. ⊎-elim (λ a. inl (same a)) (λ v. inr v) (List·Memᴰ·cases-cons m)) w)
+      (sets .each y i j)
+    where
+      same : y ≡ x → Right G line S most n y i j (τ y i j)
+      same a = subst (λ v. Right G line S most n v i j (τ v i j)) (sym a) (subst (Right G line S most n x i j) (sym (sets .at)) r)
 
-    pass-sound : {σ υ : Store} {es : List Span} → Pass G line most σ es υ → Sound G line most σ → Sound G line most υ
-    pass-sound through h = h
-    pass-sound (one k c sets rest) h = pass-sound rest (sound-kept h c sets)
+  pass-right : {n : ℕ} {σ υ : Store} {xs : List ℕ} → n ≤ most → Pass G line most i j σ xs υ → ((x : ℕ) → In x xs → S x i j)
+      → Until G line S most (suc i) j σ → Near G line S most i j n σ → (y : ℕ) → Right G line S most (suc n) y i j (σ y i j) ⊎ In y xs
+      → Right G line S most (suc n) y i j (υ y i j)
+  pass-right l through o u near y w = ⊎-elim (λ v. v) (λ m. absurd (List·Memᴰ·not-nil m)) w
+  pass-right {n} {σ} l (one {τ = τ} {x = x} k c sets p) o u near y w =
+      let z = o x (List·Memᴰ·head refl) in
+      let r = next-right u near l z c in
+      pass-right l p (λ v m. o v (List·Memᴰ·tail m)) (until-step z c sets u) (still z c r) y (step-right sets r w)
+    where
+      still : S x i j → Comes G line most σ x i j k → Right G line S most (suc n) x i j k → Near G line S most i j n τ
+      still z c r v q = ⊎-elim (λ b. b) (λ m. absurd (List·Memᴰ·not-nil m))
+          (step-right {xs = []} sets (right-below (omega arith) r) (inl (near v q)))
 
-  -- a round over all spans of this cell
-  abbrev pub Covers : List Span → Type 0
-  Covers es = (f : Span) → S (f .symbol) (f .start) (f .end) → At from here (f .start) (f .end) → In f es
+  module _ {xs : List ℕ} (cell : Cell S i j xs) where
+    near-more : {n : ℕ} {σ υ : Store} → n ≤ most → Pass G line most i j σ xs υ → Until G line S most (suc i) j σ → Near G line S most i j n σ → Near G line S most i j (suc n) υ
+    near-more l p u near y z = pass-right l p (λ x m. cell x .0 m) u near y (inr (cell y .1 z))
 
-  at-or-not : (i j : ℕ) → At from here i j ⊎ (At from here i j → ⊥)
-  at-or-not i j = elim (ℕ-discrete i from) [
-    | yes a ↦ elim (ℕ-discrete j here) [ yes b ↦ inl (a, b) | no b ↦ inr (λ (c, d). b d) ]
-    | no a ↦ inr (λ (c, d). a c)
-  ]
+    near-rounds : {t : ℕ} {σ υ : Store} → t ≤ suc most → Rounds G line most i j xs σ t υ → Until G line S most (suc i) j σ → Near G line S most i j t υ
+    near-rounds l none u = λ y z. void (λ qs s. omega arith)
+    near-rounds l (more r p) u = near-more (omega arith) p (until-rounds r (λ x m. cell x .0 m) u) (near-rounds (omega arith) r u)
 
-  module _ {es : List Span} (ours : Ours es) (covers : Covers es) where
-    one-round : (t : ℕ) {σ υ : Store} → Pass G line most σ es υ → Stage G line most S from here t σ → Stage G line most S from here (suc t) υ
-    one-round t p g = record {
-      sound = pass-sound t p (g .sound);
-      right = λ x i j s l. ⊎-elim
-          (λ a. passed t p ours g (record { symbol = x; start = i; end = j }) s l (inr (covers (record { symbol = x; start = i; end = j }) s a)))
-          (λ d. passed t p ours g (record { symbol = x; start = i; end = j }) s l (inl (g .right x i j s (λ a. absurd (d a))))) (at-or-not i j);
-    }
+    -- a round that changes nothing could go on for ever
+    near-stable : {υ : Store} → Pass G line most i j υ xs υ → Until G line S most (suc i) j υ → (n : ℕ) → n ≤ suc most → Near G line S most i j n υ
+    near-stable p u zero l = λ y z. void (λ qs s. omega arith)
+    near-stable p u (suc n) l = near-more (omega arith) p u (near-stable p u n (omega arith))
 
-    pub rounds-stage : {t : ℕ} {σ υ : Store} → Rounds G line most es σ t υ → Stage G line most S from here 0 σ → Stage G line most S from here t υ
-    rounds-stage none g = g
-    rounds-stage (more {t = t} r p) g = one-round t p (rounds-stage r g)
+  -- a lone span's parts are itself and of cells before
+  near-alone : {σ υ : Store} {x : ℕ} → Cell S i j (x ∷ []) → Pass G line most i j σ (x ∷ []) υ → Until G line S most (suc i) j σ → Near G line S most i j (suc most) υ
+  near-alone {σ} {x = x} cell (one k c sets through) u y z = ⊎-elim (λ v. v) (λ m. absurd (List·Memᴰ·not-nil m))
+      (step-right {xs = []} sets right (inr (cell y .1 z)))
+    where
+      it : {y : ℕ} → S y i j → y ≡ x
+      it {y} z = ⊎-elim (λ e. e) (λ m. absurd (List·Memᴰ·not-nil m)) (List·Memᴰ·cases-cons (cell y .1 z))
 
-    -- more rounds than the buffer has places leave all right
-    pub rounds-right : {σ υ : Store} → Rounds G line most es σ (suc most) υ → Stage G line most S from here 0 σ → (x i j : ℕ) → S x i j → Right G line most x i j (υ x i j)
-    rounds-right r g x i j s = rounds-stage r g .right x i j s (λ e rs B h. omega arith)
+      parts : (y s m : ℕ) (q : List ℕ) → i ≤ s → m ≤ j → S y s m → Spells G line S (y ∷ []) s m q → length q < suc most
+          → Is G line S σ y s m ⊎ ((y ≡ x) × ((s ≡ i) × (m ≡ j)))
+      parts y s m q a b z d h = ⊎-elim
+          (λ (e, f). inr (it (subst (λ v. S y v j) e (subst (S y s) f z)), (e, f)))
+          (λ e.
+          let t = is-told (u .right y s m z e) d h in
+          let w = t .fits in
+          inl (told-is {i = s} {j = m} {n = suc most} (λ y′ s′ m′ q′ a′ b′ z′ d′ h′. is-told (u .right y′ s′ m′ z′ (inside e a′ b′)) d′ h′)
+          (omega arith) (omega arith) t (omega arith))) (here-or-before a b)
 
-    -- and so does a round that changes nothing
-    pub stable-right : {t : ℕ} {σ υ : Store} → Rounds G line most es σ t υ → Pass G line most υ es υ → Stage G line most S from here 0 σ → (x i j : ℕ) → S x i j → Right G line most x i j (υ x i j)
-    stable-right {υ = υ} r p g x i j s = again (suc most) .right x i j s (λ e rs B h. omega arith)
-      where
-        low : {t : ℕ} {υ : Store} → Stage G line most S from here t υ → Stage G line most S from here 0 υ
-        low h = record { sound = h .sound; right = λ x i j s l. h .right x i j s (λ e rs B k. absurd (let u = l e rs B k in omega arith)) }
+      right : Right G line S most (suc most) x i j k
+      right = comes-right of-line (u .sound) (cell x .0 (List·Memᴰ·head refl)) (suc most) parts c (suc most) (omega arith) (omega arith)
 
-        again : (n : ℕ) → Stage G line most S from here n υ
-        again zero = low (rounds-stage r g)
-        again (suc n) = one-round n p (again n)
+  -- ---- a cell more is right
 
-  -- a cell of one span needs one round
-  module _ (e : Span) (ours : Ours (e ∷ [])) (covers : Covers (e ∷ [])) where
-    pub alone-right : {σ υ : Store} → Pass G line most σ (e ∷ []) υ → Stage G line most S from here 0 σ → (x i j : ℕ) → S x i j → Right G line most x i j (υ x i j)
-    alone-right {σ} {υ} (one {τ = τ} k c sets through) g x i j s = ⊎-elim
-        (λ (a, (b, d)). subst (λ (f : Span). Right G line most (f .symbol) (f .start) (f .end) (τ (f .symbol) (f .start) (f .end)))
-        (λ z. record { symbol = sym a z; start = sym b z; end = sym d z }) (subst (Right G line most (e .symbol) (e .start) (e .end)) (sym (sets .at)) new-right))
-        (λ d. ⊎-elim
-        (λ a. subst (λ (f : Span). Right G line most (f .symbol) (f .start) (f .end) (τ (f .symbol) (f .start) (f .end))) (sym (it x i j s a))
-        (subst (Right G line most (e .symbol) (e .start) (e .end)) (sym (sets .at)) new-right))
-        (λ n. subst (Right G line most x i j) (sym d) (g .right x i j s (λ a. absurd (n a)))) (at-or-not i j))
-        (sets .each x i j)
-      where
-        -- the only span of the cell
-        it : (x i j : ℕ) → S x i j → At from here i j → _≡_ {A = Span} (record { symbol = x; start = i; end = j }) e
-        it x i j s a = ⊎-elim (λ q. q) (λ m. absurd (List·Memᴰ·not-nil m)) (List·Memᴰ·cases-cons (covers (record { symbol = x; start = i; end = j }) s a))
+  finished : {υ : Store} → Until G line S most (suc i) j υ → Near G line S most i j (suc most) υ → Until G line S most i j υ
+  finished {υ} u near = record {
+    sound = u .sound;
+    right = λ x s m z d. elim (ℕ-discrete m j) [
+      | yes e ↦ elim (ℕ-discrete s i) [
+        | yes f ↦
+            let w = near x (subst (λ v. S x v j) f (subst (S x s) e z)) in
+            subst (λ v. Right G line S most (suc most) x v m (υ x v m)) (sym f) (subst (λ v. Right G line S most (suc most) x i v (υ x i v)) (sym e) w)
+        | no f ↦ u .right x s m z (⊎-elim (λ h. inl h) (λ (g, h). inr (g, omega arith)) d)
+      ]
+      | no e ↦ u .right x s m z (⊎-elim (λ h. inl h) (λ (g, h). absurd (e g)) d)
+    ];
+  }
 
-        new-right : Right G line most (e .symbol) (e .start) (e .end) k
-        new-right = comes-right lefts placed most σ closed (g .sound) (ours e (List·Memᴰ·head refl) .0)
-            (λ rs B h y u m qs p C o. g .right y u m p (λ a. absurd (let q = it y u m p a in
-            let w = ap length (best-unique (subst (λ (f : Span). Best G line (f .symbol ∷ []) (f .start) (f .end) qs) q C) B) in omega arith))) c
+  pub settled-right : {xs : List ℕ} → Cell S i j xs → {σ υ : Store} → Until G line S most (suc i) j σ → Settled G line most i j xs σ υ
+      → Until G line S most i j υ
+  settled-right cell u (alone p) = finished (until-pass p (λ x m. cell x .0 m) u) (near-alone cell p u)
+  settled-right cell u (stable r p) =
+      let v = until-rounds r (λ x m. cell x .0 m) u in
+      finished v (near-stable cell p v (suc most) (omega arith))
+  settled-right cell u (enough r) = finished (until-rounds r (λ x m. cell x .0 m) u) (near-rounds cell (omega arith) r u)

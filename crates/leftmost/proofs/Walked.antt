@@ -7,18 +7,17 @@ use native.Mathlib.Decide.{ℕ-discrete}
 use native.Mathlib.Omega.{arith}
 use lib.Dec.{T}
 use lib.ListN.{length, length-append}
-use Rattle.symbols.specs.Symbol.{terminal}
 use Rattle.theory.specs.Derivation.{Grammar}
 use Rattle.leftmost.specs.Leftmost.{Before}
 use Rattle.leftmost.specs.Leftmost.Before.{lower, later}
-use Rattle.leftmost.specs.Kept.{Kept, Store, Says, SaysAll, Other, Precedes}
-use Rattle.leftmost.specs.Kept.Says.{says}
-use Rattle.leftmost.specs.Kept.SaysAll.{end, token, span}
-use Rattle.leftmost.specs.Kept.Other.{here, further}
-use Rattle.leftmost.specs.Kept.Precedes.{by-rule, by-part}
+use Rattle.leftmost.specs.Kept.{Store, NoTokens}
+use Rattle.leftmost.specs.Says.{Says, SaysAll, Other, Precedes}
+use Rattle.leftmost.specs.Says.Says.{says}
+use Rattle.leftmost.specs.Says.SaysAll.{end, token, span}
+use Rattle.leftmost.specs.Says.Other.{here, further}
+use Rattle.leftmost.specs.Says.Precedes.{by-rule, by-part}
 use Rattle.leftmost.proofs.Order.{before-longer, before-after}
-use Rattle.leftmost.proofs.Prefix.{Lefts, apart}
-use Rattle.leftmost.proofs.Said.{said-once}
+use Rattle.leftmost.proofs.Said.{not-said, said-once}
 
 -- what the two spans say at the first symbol that ends elsewhere, and that this decides
 pub record Decided (G : Grammar) (line : List ℕ) (σ : Store) (y s a b : ℕ) (qs ps : List ℕ) : Type 0 where
@@ -30,15 +29,12 @@ pub record Decided (G : Grammar) (line : List ℕ) (σ : Store) (y s a b : ℕ) 
   pub less-one : length one ≤ length qs
   pub decides : Before one two → Before qs ps
 
-module _ {G : Grammar} (lefts : Lefts G) {line : List ℕ} {σ : Store} where
-  not-both : {y i m : ℕ} {q : List ℕ} → T (terminal y) → Says G line σ y i m q → ⊥
-  not-both {y} {i} {m} t (says n c l s e) = apart lefts (σ y i m .rule) t c l
-
+module _ {G : Grammar} {line : List ℕ} {σ : Store} (none : NoTokens σ) where
   pub other-said : {ys ms ns qs ps : List ℕ} {i j k y s a b : ℕ} → SaysAll G line σ ys i ms j qs → SaysAll G line σ ys i ns k ps → Other ys i ms ns y s a b
       → Decided G line σ y s a b qs ps
   other-said (token t h e u) (token t′ h′ e′ v) (here n) = absurd (n refl)
-  other-said (token t h e u) (span a v q) (here n) = absurd (not-both t a)
-  other-said (span a u q) (token t h e v) (here n) = absurd (not-both t a)
+  other-said (token t h e u) (span a v q) (here n) = absurd (not-said none t a)
+  other-said (span a u q) (token t h e v) (here n) = absurd (not-said none t a)
   other-said (span {q = q} {ps = w} {qs = l} a u e) (span {q = q′} {ps = w′} {qs = l′} b v e′) (here n) = record {
     one = q;
     two = q′;
@@ -49,8 +45,8 @@ module _ {G : Grammar} (lefts : Lefts G) {line : List ℕ} {σ : Store} where
     decides = λ o. subst (λ z. Before z l′) e (subst (λ z. Before (q ++ w) z) e′ (before-longer o w w′));
   }
   other-said (token t h e u) (token t′ h′ e′ v) (further o) = other-said u v o
-  other-said (token t h e u) (span a v q) (further o) = absurd (not-both t a)
-  other-said (span a u q) (token t h e v) (further o) = absurd (not-both t a)
+  other-said (token t h e u) (span a v q) (further o) = absurd (not-said none t a)
+  other-said (span a u q) (token t h e v) (further o) = absurd (not-said none t a)
   other-said (span {q = q} {ps = w} {qs = l} a u e) (span {q = q′} {ps = w′} {qs = l′} b v e′) (further o) =
       let d = other-said u v o in
       record {
@@ -60,7 +56,7 @@ module _ {G : Grammar} (lefts : Lefts G) {line : List ℕ} {σ : Store} where
         says-two = d .says-two;
         apart = d .apart;
         less-one = (let n = d .less-one in omega (arith, length-append q w, ap length e));
-        decides = λ z. subst (λ y. Before y l′) e (subst (λ y. Before (q ++ w) y) (ap (λ y. y ++ w′) (said-once lefts a b) ∙ e′) (before-after q (d .decides z)));
+        decides = λ z. subst (λ y. Before y l′) e (subst (λ y. Before (q ++ w) y) (ap (λ y. y ++ w′) (said-once none a b) ∙ e′) (before-after q (d .decides z)));
       }
 
   -- symbols that end at another place have one that ends elsewhere
@@ -68,8 +64,8 @@ module _ {G : Grammar} (lefts : Lefts G) {line : List ℕ} {σ : Store} where
       → (y : ℕ) × (s : ℕ) × (a : ℕ) × (b : ℕ) × Other ys i ms ns y s a b
   some-other-said end end n = absurd (n refl)
   some-other-said (token t h e u) (token t′ h′ e′ v) n = let (y, s, a, b, o) = some-other-said u v n in (y, s, a, b, further o)
-  some-other-said (token t h e u) (span a v q) n = absurd (not-both t a)
-  some-other-said (span a u q) (token t h e v) n = absurd (not-both t a)
+  some-other-said (token t h e u) (span a v q) n = absurd (not-said none t a)
+  some-other-said (span a u q) (token t h e v) n = absurd (not-said none t a)
   some-other-said {k = k} (span {y = y} {i = i} {m = m} {ms = ms} a u e) (span {m = m′} {ys = ys} {ms = ns} {ps = w} b v e′) n = elim (ℕ-discrete m m′) [
     | yes q ↦
         let (x, s, c, d, o) = some-other-said u (subst (λ z. SaysAll G line σ ys z ns k w) (sym q) v) n in
