@@ -1,7 +1,7 @@
 -- A span comes out right where its parts are: set to its best offer it is told, up to one application more than its parts are. Its parts
 -- are spans inside its own ends; one that is the span itself only makes a list longer. Assumes nothing.
 use mathlib.Core.Path.{_≡_, refl, sym, _∙_, ap, subst}
-use mathlib.Core.Logic.{_≢_, _⊎_, inl, inr, ⊎-elim}
+use mathlib.Core.Logic.{_⊎_, inl, inr, ⊎-elim}
 use mathlib.Core.List.{List, [], _∷_, _++_, append-nil}
 use Prim.Native.Nat.{ℕ, zero, suc, _+_, _≤_, _<_}
 use native.Mathlib.Omega.{arith}
@@ -87,7 +87,8 @@ module _ {G : Grammar} {line : List ℕ} {S : Spans} (of-line : OfLine line S) {
   abbrev Shorter : ℕ → Type 0
   Shorter c = (q : List ℕ) × Spells G line S (x ∷ []) i j q × (length q ≤ c)
 
-  adds : {ys qs : List ℕ} {s m : ℕ} → Spells G line S ys s m qs → i ≤ s → m ≤ j → length qs < n → Adds G line S σ ys s m qs ⊎ Shorter (length qs)
+  adds : {ys qs : List ℕ} {s m : ℕ} → Spells G line S ys s m qs → i ≤ s → m ≤ j → length qs < n
+      → Adds G line S σ ys s m qs ⊎ Shorter (length qs)
   adds stop a b h = inl (record { ends = []; list = []; total = ended; says = end; cut = whole; low = omega arith; order = λ e. inl refl })
   adds (pass {i = s} t l e d) a b h = ⊎-elim
       (λ p. inl (record {
@@ -111,7 +112,8 @@ module _ {G : Grammar} {line : List ℕ} {S : Spans} (of-line : OfLine line S) {
     where
       itself : {q : List ℕ} → y ≡ x → s ≡ i → m ≡ j → Spells G line S (y ∷ []) s m q → Spells G line S (x ∷ []) i j q
       itself {q} e f g o =
-          subst (λ v. Spells G line S (v ∷ []) i j q) e (subst (λ v. Spells G line S (y ∷ []) v j q) f (subst (λ v. Spells G line S (y ∷ []) s v q) g o))
+          subst (λ v. Spells G line S (v ∷ []) i j q) e
+          (subst (λ v. Spells G line S (y ∷ []) v j q) f (subst (λ v. Spells G line S (y ∷ []) s v q) g o))
 
       both : Is G line S σ y s m → Adds G line S σ ys m k us → Spells G line S (y ∷ []) s m (r ∷ ps) → length ps + length us ≡ length rs
           → Adds G line S σ (y ∷ ys) s k (r ∷ rs)
@@ -254,6 +256,9 @@ module _ {G : Grammar} {line : List ℕ} {S : Spans} (of-line : OfLine line S) {
       (λ h. let o = own (length qs) qs s (omega arith) (omega arith) (omega arith) in absurd (f (o .rule) _ (o .ends) (o .offer)))
       (low-or-high u (length qs)))
   comes-right {k} (offered {c = c} z o f) u a b = ⊎-elim
-      (λ h. void (λ qs s. ⊎-elim (λ g. g) (λ g. let l = least-of k c f qs s (omega arith) (omega arith) in absurd (omega arith)) (low-or-high u (length qs))))
+      (λ h. void (λ qs s. ⊎-elim
+      (λ g. g)
+      (λ g. let l = least-of k c f qs s (omega arith) (omega arith) in absurd (omega arith))
+      (low-or-high u (length qs))))
       (λ h. let p = said-all sound (o .total) in told (told-of k c f o (p .list) (p .is) (p .short) (omega arith) z))
       (low-or-high u (suc c))

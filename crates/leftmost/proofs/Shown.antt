@@ -1,17 +1,17 @@
 -- The spans that the links of a line show. On every table in form read to the line's end they are spans of the line; on a consistent one
 -- (every made table is) they are closed, so that the first within them is the first of all. Assumes nothing.
-use mathlib.Core.Path.{_≡_, refl, sym, ap, subst}
+use mathlib.Core.Path.{_≡_, refl, ap}
 use mathlib.Core.Logic.{_↔_, ⊎-elim}
 use mathlib.Core.List.{List, [], _∷_, List·Memᴰ as In, List·Memᴰ·head, List·Memᴰ·not-nil}
-use Prim.Native.Nat.{ℕ, _≤_, _<_}
+use Prim.Native.Nat.{ℕ, _≤_}
 use native.Mathlib.Omega.{arith}
 use lib.Dec.{T}
 use lib.ListN.{length, List·getD-eq-default}
 use Rattle.symbols.specs.Symbol.{START, nonterminal}
-use Rattle.theory.specs.Derivation.{Grammar, Derives}
+use Rattle.theory.specs.Derivation.{Derives}
 use Rattle.theory.specs.Items.{Items, Moved}
 use Rattle.theory.specs.Items.Moved.{moved}
-use Rattle.theory.specs.Table.{FREE, CURRENT, EXPANDED, RulePlace, Item, Table, freeRule, item, ruleAt, setAt, grammar, automaton}
+use Rattle.theory.specs.Table.{EXPANDED, RulePlace, Item, Table, freeRule, item, ruleAt, setAt, grammar, automaton}
 use Rattle.theory.specs.Parse.{Link}
 use Rattle.theory.proofs.Symbols.{is-nonterminal}
 use Rattle.theory.proofs.Items.{current-is}
@@ -94,5 +94,6 @@ module _ {t : Table} {line : List ℕ} {ls : List Link} (𝓒 : Consistent t) (t
   pub shown-first : (rs : List ℕ) → First (grammar (t .rules)) line rs ↔ FirstWithin (grammar (t .rules)) line (Shown t line ls) rs
   shown-first rs = closed-first tokens shown-closed rs
 
-  pub shown-derives : Derives (grammar (t .rules)) (START ∷ []) line ↔ ((rs : List ℕ) × FirstWithin (grammar (t .rules)) line (Shown t line ls) rs)
+  pub shown-derives : Derives (grammar (t .rules)) (START ∷ []) line
+      ↔ ((rs : List ℕ) × FirstWithin (grammar (t .rules)) line (Shown t line ls) rs)
   shown-derives = closed-derives table-lefts (table-placed t) tokens shown-closed

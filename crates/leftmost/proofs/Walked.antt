@@ -1,11 +1,10 @@
 -- The walk of `before` tells the order of the lists that two spans say, without the lists. Assumes nothing.
-use mathlib.Core.Path.{_≡_, refl, sym, _∙_, ap, subst}
-use mathlib.Core.Logic.{_≢_, _⊎_, inl, inr, ⊎-elim}
-use mathlib.Core.List.{List, [], _∷_, _++_}
-use Prim.Native.Nat.{ℕ, zero, suc, _+_, _≤_, _<_}
+use mathlib.Core.Path.{refl, sym, _∙_, ap, subst}
+use mathlib.Core.Logic.{_≢_}
+use mathlib.Core.List.{List, _∷_, _++_}
+use Prim.Native.Nat.{ℕ, _≤_}
 use native.Mathlib.Decide.{ℕ-discrete}
 use native.Mathlib.Omega.{arith}
-use lib.Dec.{T}
 use lib.ListN.{length, length-append}
 use Rattle.theory.specs.Derivation.{Grammar}
 use Rattle.leftmost.specs.Leftmost.{Before}
@@ -30,7 +29,8 @@ pub record Decided (G : Grammar) (line : List ℕ) (σ : Store) (y s a b : ℕ) 
   pub decides : Before one two → Before qs ps
 
 module _ {G : Grammar} {line : List ℕ} {σ : Store} (none : NoTokens σ) where
-  pub other-said : {ys ms ns qs ps : List ℕ} {i j k y s a b : ℕ} → SaysAll G line σ ys i ms j qs → SaysAll G line σ ys i ns k ps → Other ys i ms ns y s a b
+  pub other-said : {ys ms ns qs ps : List ℕ} {i j k y s a b : ℕ} → SaysAll G line σ ys i ms j qs → SaysAll G line σ ys i ns k ps
+      → Other ys i ms ns y s a b
       → Decided G line σ y s a b qs ps
   other-said (token t h e u) (token t′ h′ e′ v) (here n) = absurd (n refl)
   other-said (token t h e u) (span a v q) (here n) = absurd (not-said none t a)
@@ -56,7 +56,8 @@ module _ {G : Grammar} {line : List ℕ} {σ : Store} (none : NoTokens σ) where
         says-two = d .says-two;
         apart = d .apart;
         less-one = (let n = d .less-one in omega (arith, length-append q w, ap length e));
-        decides = λ z. subst (λ y. Before y l′) e (subst (λ y. Before (q ++ w) y) (ap (λ y. y ++ w′) (said-once none a b) ∙ e′) (before-after q (d .decides z)));
+        decides = λ z. subst (λ y. Before y l′) e
+            (subst (λ y. Before (q ++ w) y) (ap (λ y. y ++ w′) (said-once none a b) ∙ e′) (before-after q (d .decides z)));
       }
 
   -- symbols that end at another place have one that ends elsewhere
@@ -66,15 +67,17 @@ module _ {G : Grammar} {line : List ℕ} {σ : Store} (none : NoTokens σ) where
   some-other-said (token t h e u) (token t′ h′ e′ v) n = let (y, s, a, b, o) = some-other-said u v n in (y, s, a, b, further o)
   some-other-said (token t h e u) (span a v q) n = absurd (not-said none t a)
   some-other-said (span a u q) (token t h e v) n = absurd (not-said none t a)
-  some-other-said {k = k} (span {y = y} {i = i} {m = m} {ms = ms} a u e) (span {m = m′} {ys = ys} {ms = ns} {ps = w} b v e′) n = elim (ℕ-discrete m m′) [
-    | yes q ↦
-        let (x, s, c, d, o) = some-other-said u (subst (λ z. SaysAll G line σ ys z ns k w) (sym q) v) n in
-        (x, s, c, d, subst (λ z. Other (y ∷ ys) i (m ∷ ms) (z ∷ ns) x s c d) q (further o))
-    | no d ↦ (y, i, m, m′, here d)
-  ]
+  some-other-said {k = k} (span {y = y} {i = i} {m = m} {ms = ms} a u e) (span {m = m′} {ys = ys} {ms = ns} {ps = w} b v e′) n =
+      elim (ℕ-discrete m m′) [
+        | yes q ↦
+            let (x, s, c, d, o) = some-other-said u (subst (λ z. SaysAll G line σ ys z ns k w) (sym q) v) n in
+            (x, s, c, d, subst (λ z. Other (y ∷ ys) i (m ∷ ms) (z ∷ ns) x s c d) q (further o))
+        | no d ↦ (y, i, m, m′, here d)
+      ]
 
   -- the walk is right
-  pub precedes-before : {x i a b : ℕ} {rs qs : List ℕ} → Precedes G σ x i a b → Says G line σ x i a rs → Says G line σ x i b qs → Before rs qs
+  pub precedes-before : {x i a b : ℕ} {rs qs : List ℕ} → Precedes G σ x i a b → Says G line σ x i a rs → Says G line σ x i b qs
+      → Before rs qs
   precedes-before {x} {i} {a} {b} {rs} {qs} (by-rule h) (says {qs = u} n c l s e) (says {qs = v} n′ c′ l′ s′ e′) =
       subst (λ z. Before z qs) e (subst (λ z. Before (σ x i a .rule ∷ u) z) e′ (lower h))
   precedes-before {x} {i} {a} {b} {rs} {qs} (by-part w o p) (says {qs = u} n c l s e) (says {qs = v} n′ c′ l′ s′ e′) =

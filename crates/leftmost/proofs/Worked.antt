@@ -2,7 +2,7 @@
 -- and buffers too short. The model is computed, and what it gives is the first of the fewest by the definitions.
 -- Assumes nothing.
 use mathlib.Core.Path.{_≡_, refl}
-use mathlib.Core.Bool.{Bool, true, false}
+use mathlib.Core.Bool.{Bool, true}
 use mathlib.Core.List.{List, [], _∷_}
 use Prim.Native.Nat.{ℕ, zero, suc, _≤_, _<_}
 use native.Mathlib.Omega.{arith}
@@ -13,7 +13,7 @@ use Rattle.laws.proofs.Tests.{and-both, ltb-iff}
 use Rattle.symbols.specs.Symbol.{START, terminal, nonterminal}
 use Rattle.theory.specs.Derivation.{Grammar}
 use Rattle.leftmost.specs.Leftmost.{Tokens, Leftmost, First}
-use Rattle.leftmost.specs.Model.{Found, derivation, fewestFrom, listed, walk, lowest, or-else, put}
+use Rattle.leftmost.specs.Model.{Found, derivation, fewestFrom, listed, walk, byRule, lowest, or-else, put}
 use Rattle.leftmost.specs.Model.Found.{nothing, some}
 use Rattle.leftmost.proofs.Walks.{Lefts}
 use Rattle.leftmost.proofs.Fewest.{Placed, model-lists, model-nothing}
@@ -123,10 +123,23 @@ Computed (c ∷ cs) = (T (allLeft (c .rules)) × (T (allTokens (c .line)) × (mo
 
 computed : Computed cases
 unfolding Computed cases modelled allLeft allTokens grammarOf rule list loop empties pairs twice
-    derivation fewestFrom listed walk lowest or-else put _and_ when terminal nonterminal
-computed =
-    ((tt, (tt, refl)), ((tt, (tt, refl)), ((tt, (tt, refl)), ((tt, (tt, refl)), ((tt, (tt, refl)), 
-    ((tt, (tt, refl)), ((tt, (tt, refl)), ((tt, (tt, refl)), ((tt, (tt, refl)), ((tt, (tt, refl)), tt))))))))))
+    derivation fewestFrom listed walk byRule lowest or-else put _and_ when terminal nonterminal
+computed = (
+  (tt, (tt, refl)),
+  (
+    (tt, (tt, refl)),
+    (
+      (tt, (tt, refl)),
+      (
+        (tt, (tt, refl)),
+        (
+          (tt, (tt, refl)),
+          ((tt, (tt, refl)), ((tt, (tt, refl)), ((tt, (tt, refl)), ((tt, (tt, refl)), ((tt, (tt, refl)), tt))))),
+        ),
+      ),
+    ),
+  ),
+)
 
 All : List Case → Type 0
 All [] = Unit {0}

@@ -1,6 +1,6 @@
 -- The list that a span says by what is kept, and the walk that tells which of two spans says the earlier one. Assumes nothing.
 use mathlib.Core.Path.{_≡_}
-use mathlib.Core.Logic.{_≢_}
+use mathlib.Core.Logic.{_≢_, _⊎_}
 use mathlib.Core.List.{List, [], _∷_, _++_}
 use Prim.Native.Nat.{ℕ, suc, _<_}
 use lib.Dec.{T}
@@ -26,6 +26,10 @@ mutual
 -- the lists said with the ends ms come before those said with ns
 abbrev pub Ahead : Grammar → List ℕ → Store → List ℕ → ℕ → ℕ → List ℕ → List ℕ → Type 0
 Ahead G line σ ys i j ms ns = (qs ps : List ℕ) → SaysAll G line σ ys i ms j qs → SaysAll G line σ ys i ns j ps → Before qs ps
+
+-- the same ends, or ends with which the earlier list is said
+abbrev pub Foremost : Grammar → List ℕ → Store → List ℕ → ℕ → ℕ → List ℕ → List ℕ → Type 0
+Foremost G line σ ys i j ms ns = (ms ≡ ns) ⊎ Ahead G line σ ys i j ms ns
 
 -- the first symbol that ends elsewhere: y, from s, ends at a and at b
 pub data Other : List ℕ → ℕ → List ℕ → List ℕ → ℕ → ℕ → ℕ → ℕ → Type 0 where
