@@ -1,7 +1,7 @@
 -- The spans that a table's graph of links shows. On every table they are spans of the line; on a consistent one (every made table is) that
 -- was read to the line's end they are closed, so that the first within them is the first of all. Assumes nothing.
 use mathlib.Core.Path.{_≡_, refl, ap}
-use mathlib.Core.Logic.{_↔_, _⊎_, inl, inr, ⊎-elim}
+use mathlib.Core.Logic.{_↔_, ⊎-elim}
 use mathlib.Core.List.{List, [], _∷_, List·Memᴰ as In, List·Memᴰ·head, List·Memᴰ·not-nil}
 use Prim.Native.Nat.{ℕ, _≤_}
 use native.Mathlib.Omega.{arith}
@@ -12,7 +12,7 @@ use Rattle.theory.specs.Derivation.{Derives}
 use Rattle.theory.specs.Items.{Items, Moved}
 use Rattle.theory.specs.Items.Moved.{moved}
 use Rattle.theory.specs.Table.{EXPANDED, RulePlace, Item, Table, freeRule, item, ruleAt, setAt, grammar, automaton}
-use Rattle.theory.specs.Parse.{Link, link}
+use Rattle.theory.specs.Parse.{Link}
 use Rattle.theory.proofs.Symbols.{is-nonterminal}
 use Rattle.theory.proofs.Items.{current-is}
 use Rattle.theory.proofs.Consistent.{Consistent}
@@ -20,8 +20,9 @@ use Rattle.theory.proofs.Ends.{Finished}
 use Rattle.theory.proofs.Parsing.{started}
 use Rattle.leftmost.specs.Leftmost.{Tokens, First}
 use Rattle.leftmost.specs.Within.{FirstWithin, Closed, OfLine}
-use Rattle.leftmost.specs.Shown.{beforeDot, beforeFirst, symbolOf, Shown}
+use Rattle.leftmost.specs.Shown.{beforeDot, beforeFirst, symbolOf, Shown, InHand}
 use Rattle.leftmost.specs.Shown.Shown.{start, linked}
+use Rattle.leftmost.specs.Shown.InHand.{start as hand-start, linked as hand-linked}
 use Rattle.leftmost.proofs.Order.{low-or-high}
 use Rattle.leftmost.proofs.Parts.{more-spans}
 use Rattle.leftmost.proofs.Walks.{Lefts}
@@ -48,15 +49,18 @@ shown-of-line t line = record { symbol = λ x i j s. symbol s; ahead = λ x i j 
     low (start a b c) = omega arith
     low (linked l e n) = link-low l .0
 
--- the links in hand at the line's end show them
-pub shown-in : {t : Table} {line : List ℕ} {ls : List Link} → Finished t line ls → (x i j : ℕ) → Shown t line x i j
-    ↔ (((x ≡ START) × ((i ≡ 0) × (j ≡ length line))) ⊎ ((s : ℕ) × (u : ℕ) × In (link j s i u) ls × (symbolOf t s ≡ x) × T (nonterminal x)))
-shown-in {t} {line} {ls} f x i j = (to, ⊎-elim (λ (a, (b, c)). start a b c) (λ (s, u, m, e, n). linked (f .exactly .all j s i u .0 m) e n))
+-- at the line's end they are those of the links in hand
+pub shown-in-hand : {t : Table} {line : List ℕ} {ls : List Link} → Finished t line ls → (x i j : ℕ)
+    → Shown t line x i j ↔ InHand t line ls x i j
+shown-in-hand {t} {line} {ls} f x i j = (to, from)
   where
-    to : {x i j : ℕ} → Shown t line x i j
-        → ((x ≡ START) × ((i ≡ 0) × (j ≡ length line))) ⊎ ((s : ℕ) × (u : ℕ) × In (link j s i u) ls × (symbolOf t s ≡ x) × T (nonterminal x))
-    to (start a b c) = inl (a, (b, c))
-    to {i = i} {j = j} (linked {s = s} {u = u} l e n) = inr (s, u, f .exactly .all j s i u .1 l, e, n)
+    to : {x i j : ℕ} → Shown t line x i j → InHand t line ls x i j
+    to (start a b c) = hand-start a b c
+    to {i = i} {j = j} (linked {s = s} {u = u} l e n) = hand-linked s u (f .exactly .all j s i u .1 l) e n
+
+    from : {x i j : ℕ} → InHand t line ls x i j → Shown t line x i j
+    from (hand-start a b c) = start a b c
+    from {i = i} {j = j} (hand-linked s u m e n) = linked (f .exactly .all j s i u .0 m) e n
 
 -- a current rule is at a rule place
 pub table-placed : (t : Table) → Placed (grammar (t .rules)) (length (t .rules))

@@ -3,7 +3,7 @@
 -- Assumes nothing.
 use mathlib.Core.Path.{_≡_, refl}
 use mathlib.Core.Bool.{Bool, true}
-use mathlib.Core.List.{List, [], _∷_}
+use mathlib.Core.List.{List, [], _∷_, map}
 use Prim.Native.Nat.{ℕ, zero, suc, _≤_, _<_}
 use native.Mathlib.Omega.{arith}
 use lib.Dec.{T, ltb}
@@ -117,38 +117,33 @@ unfolding Says modelled
 model-says c a b (some rs) e = model-lists (lefts (c .rules) a) (placed (c .rules)) (c .line) (tokens (c .line) b) (c .most) rs .0 e
 model-says c a b nothing e = model-nothing (lefts (c .rules) a) (placed (c .rules)) (c .line) (tokens (c .line) b) (c .most) .0 e
 
-Computed : List Case → Type 0
-Computed [] = Unit {0}
-Computed (c ∷ cs) = (T (allLeft (c .rules)) × (T (allTokens (c .line)) × (modelled c ≡ c .found))) × Computed cs
+-- each case computed, and of rules and tokens as they should be
+computed : map modelled cases ≡ map (λ c. c .found) cases
+unfolding cases modelled grammarOf rule list loop empties pairs twice
+    derivation fewestFrom listed walk byRule lowest or-else put _and_ when terminal
+computed = refl
 
-computed : Computed cases
-unfolding Computed cases modelled allLeft allTokens grammarOf rule list loop empties pairs twice
-    derivation fewestFrom listed walk byRule lowest or-else put _and_ when terminal nonterminal
-computed = (
-  (tt, (tt, refl)),
-  (
-    (tt, (tt, refl)),
-    (
-      (tt, (tt, refl)),
-      (
-        (tt, (tt, refl)),
-        (
-          (tt, (tt, refl)),
-          ((tt, (tt, refl)), ((tt, (tt, refl)), ((tt, (tt, refl)), ((tt, (tt, refl)), ((tt, (tt, refl)), tt))))),
-        ),
-      ),
-    ),
-  ),
-)
+allSane : List Case → Bool
+allSane [] = true
+allSane (c ∷ cs) = let rest = allSane cs in (allLeft (c .rules) and allTokens (c .line)) and rest
+
+sane : T (allSane cases)
+unfolding allSane cases allLeft allTokens rule list loop empties pairs twice _and_ terminal nonterminal
+sane = tt
 
 All : List Case → Type 0
 All [] = Unit {0}
 All (c ∷ cs) = Says c (c .found) × All cs
 
-all-said : (cs : List Case) → Computed cs → All cs
-unfolding Computed All
-all-said [] a = tt
-all-said (c ∷ cs) ((a, (b, e)), rest) = (model-says c a b (c .found) e, all-said cs rest)
+all-said : (cs : List Case) → map modelled cs ≡ map (λ c. c .found) cs → T (allSane cs) → All cs
+unfolding All allSane
+all-said [] e a = tt
+all-said (c ∷ cs) e a =
+    let (b, rest) = and-both (allLeft (c .rules) and allTokens (c .line)) (allSane cs) .0 a in
+    let (l, k) = and-both (allLeft (c .rules)) (allTokens (c .line)) .0 b in
+    let here : modelled c ≡ c .found = cc in
+    let there : map modelled cs ≡ map (λ c. c .found) cs = cc in
+    (model-says c l k (c .found) here, all-said cs there rest)
 
 worked : All cases
-worked = all-said cases computed
+worked = all-said cases computed sane
