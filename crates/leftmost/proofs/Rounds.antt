@@ -18,7 +18,8 @@ use Rattle.leftmost.specs.Cells.Pass.{through, one}
 use Rattle.leftmost.specs.Cells.Rounds.{none, more}
 use Rattle.leftmost.specs.Cells.Settled.{alone, stable, enough}
 use Rattle.leftmost.proofs.Keeping.{sound-kept}
-use Rattle.leftmost.proofs.Inner.{Is, Inner, told-is}
+use Rattle.leftmost.proofs.Inner.{Inner, told-is}
+use Rattle.leftmost.proofs.Offers.{Known}
 use Rattle.leftmost.proofs.Exact.{comes-right}
 
 -- the spans of the cell (i, j) are right up to n
@@ -145,8 +146,7 @@ module _ {G : Grammar} {line : List ℕ} {S : Spans} (of-line : OfLine line S) {
       it : {y : ℕ} → S y i j → y ≡ x
       it {y} z = ⊎-elim (λ e. e) (λ m. absurd (List·Memᴰ·not-nil m)) (List·Memᴰ·cases-cons (cell y .1 z))
 
-      parts : (y s m : ℕ) (q : List ℕ) → i ≤ s → m ≤ j → S y s m → Spells G line S (y ∷ []) s m q → length q < suc most
-          → Is G line S σ y s m ⊎ ((y ≡ x) × ((s ≡ i) × (m ≡ j)))
+      parts : Known G line S σ x i j (suc most)
       parts y s m q a b z d h = ⊎-elim
           (λ (e, f). inr (it (subst (λ v. S y v j) e (subst (S y s) f z)), (e, f)))
           (λ e.
