@@ -11,17 +11,17 @@ use lib.ListN.{length}
 use Rattle.symbols.specs.Symbol.{START}
 use Rattle.theory.specs.Derivation.{Grammar}
 use Rattle.leftmost.specs.Within.{Spans, Spells, FirstWithin, OfLine}
+use Rattle.leftmost.specs.Within.Spells.{stop, apply}
 use Rattle.leftmost.specs.Kept.{Store}
 use Rattle.leftmost.specs.Says.{Says}
-use Rattle.leftmost.specs.Cells.{Told, Right, Cell, Settled, Until}
-use Rattle.leftmost.specs.Within.Spells.{stop, apply}
+use Rattle.leftmost.specs.Cells.{Told, Right, Until}
 use Rattle.leftmost.specs.Cells.Pass.{through}
 use Rattle.leftmost.specs.Cells.Rounds.{none}
 use Rattle.leftmost.specs.Cells.Settled.{stable}
 use Rattle.leftmost.proofs.Order.{low-or-high}
 use Rattle.leftmost.proofs.Said.{said-all, all-spells}
 use Rattle.leftmost.proofs.Inner.{Inner, told-says}
-use Rattle.leftmost.proofs.Rounds.{is-told, settled-right}
+use Rattle.leftmost.proofs.Rounds.{is-told, next-cell}
 
 -- what is kept of START's span: the first within, where it fits
 pub record StartFirst (G : Grammar) (line : List ℕ) (S : Spans) (most : ℕ) (σ : Store) (rs : List ℕ) : Type 0 where
@@ -40,12 +40,7 @@ module _ {G : Grammar} {line : List ℕ} {S : Spans} {most : ℕ} where
     right = λ x i j s d. absurd (⊎-elim (λ h. omega arith) (λ (e, h). let a = of-line .ahead x i j s in omega arith) d);
   }
 
-  -- a cell that is settled
-  pub next-cell : OfLine line S → {i j : ℕ} {xs : List ℕ} → Cell S i j xs → {σ υ : Store} → Until G line S most (suc i) j σ
-      → Settled G line most i j xs σ υ → Until G line S most i j υ
-  next-cell of-line cell u s = settled-right of-line cell u s
-
-  -- a cell without spans
+  -- a cell without spans (one with spans: `next-cell` of Rounds)
   pub skip-cell : OfLine line S → {i j : ℕ} → ((x : ℕ) → S x i j → ⊥) → {σ : Store} → Until G line S most (suc i) j σ
       → Until G line S most i j σ
   skip-cell of-line empty u =

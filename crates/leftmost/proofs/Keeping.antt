@@ -31,6 +31,7 @@ less {τ = τ} l (span {y = y} {i = i} {m = m} z s e) =
 
 module _ {G : Grammar} {line : List ℕ} {S : Spans} {most : ℕ} {σ τ : Store} {x i j : ℕ} {k : Kept} (at-hand : S x i j)
     (sound : Sound G line S most σ) (comes : Comes G line most σ x i j k) (sets : Sets σ τ x i j k) where
+  -- no cost rises
   lower-at : σ x i j .cost ≢ 0 → (k .cost ≢ 0) × (k .cost ≤ σ x i j .cost)
   lower-at z = go comes
     where

@@ -158,7 +158,7 @@ module _ {G : Grammar} {line : List ℕ} {S : Spans} (of-line : OfLine line S) {
       right : Right G line S most (suc most) x i j k
       right = comes-right of-line (u .sound) (cell x .0 (List·Memᴰ·head refl)) (suc most) parts c (suc most) (omega arith) (omega arith)
 
-  -- ---- a cell more is right
+  -- ---- settled, a cell more is right
 
   finished : {υ : Store} → Until G line S most (suc i) j υ → Near G line S most i j (suc most) υ → Until G line S most i j υ
   finished {υ} u near = record {
@@ -175,10 +175,10 @@ module _ {G : Grammar} {line : List ℕ} {S : Spans} (of-line : OfLine line S) {
     ];
   }
 
-  pub settled-right : {xs : List ℕ} → Cell S i j xs → {σ υ : Store} → Until G line S most (suc i) j σ → Settled G line most i j xs σ υ
+  pub next-cell : {xs : List ℕ} → Cell S i j xs → {σ υ : Store} → Until G line S most (suc i) j σ → Settled G line most i j xs σ υ
       → Until G line S most i j υ
-  settled-right cell u (alone p) = finished (until-pass p (λ x m. cell x .0 m) u) (near-alone cell p u)
-  settled-right cell u (stable r p) =
+  next-cell cell u (alone p) = finished (until-pass p (λ x m. cell x .0 m) u) (near-alone cell p u)
+  next-cell cell u (stable r p) =
       let v = until-rounds r (λ x m. cell x .0 m) u in
       finished v (near-stable cell p v (suc most) (omega arith))
-  settled-right cell u (enough r) = finished (until-rounds r (λ x m. cell x .0 m) u) (near-rounds cell (omega arith) r u)
+  next-cell cell u (enough r) = finished (until-rounds r (λ x m. cell x .0 m) u) (near-rounds cell (omega arith) r u)
