@@ -1,0 +1,38 @@
+-- The steps of gathering: one key put among those that are there, a link taken, numbers made zero. Assumes nothing.
+use mathlib.Core.Path.{_≡_}
+use mathlib.Core.Logic.{_⊎_, _≢_}
+use mathlib.Core.List.{List}
+use Prim.Native.Nat.{ℕ, suc, _+_, _-_, _≤_, _<_}
+use lib.Dec.{T}
+use lib.ListN.{length, getD}
+use Rattle.symbols.specs.Symbol.{nonterminal}
+use Rattle.theory.specs.Parse.{Link}
+use Rattle.spans.specs.Area.{keyOf, keyAt}
+use Rattle.spans.specs.Gathered.{Ascending}
+
+-- the key is at one of the places
+pub record Has (a : List ℕ) (count key : ℕ) : Type 0 where
+  pub place : ℕ
+  pub inside : place < count
+  pub is : keyAt a place ≡ key
+
+-- f is where the key belongs: the first place with a greater one
+pub record Belongs (a : List ℕ) (count key f : ℕ) : Type 0 where
+  pub inside : f ≤ count
+  pub before : 0 < f → keyAt a (f - 1) ≤ key
+  pub after : (e : ℕ) → f ≤ e → e < count → key < keyAt a e
+
+-- the keys from f on, up to `count`, each one place up
+pub record Opened (a b : List ℕ) (f count : ℕ) : Type 0 where
+  pub long : length b ≡ length a
+  pub low : (e : ℕ) → e < f → keyAt b e ≡ keyAt a e
+  pub high : (e : ℕ) → f ≤ e → e < count → keyAt b (suc e) ≡ keyAt a e
+
+-- the key is among the places, which are otherwise the same
+pub record Inserts (a b : List ℕ) (count key after : ℕ) : Type 0 where
+  pub long : length b ≡ length a
+  pub more : after ≤ count + 1
+  pub ascending : Ascending b after
+  pub there : Has b after key
+  pub held : (e : ℕ) → e < count → Has b after (keyAt a e)
+  pub only : (e : ℕ) → e < after → (keyAt b e ≡ key) ⊎ Has a count (keyAt b e)
