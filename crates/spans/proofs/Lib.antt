@@ -1,1 +1,2 @@
 -- Laws of the work area.
+pub mod Inserted

@@ -1,13 +1,10 @@
 -- The steps of gathering: one key put among those that are there, a link taken, numbers made zero. Assumes nothing.
 use mathlib.Core.Path.{_≡_}
-use mathlib.Core.Logic.{_⊎_, _≢_}
+use mathlib.Core.Logic.{_⊎_}
 use mathlib.Core.List.{List}
-use Prim.Native.Nat.{ℕ, suc, _+_, _-_, _≤_, _<_}
-use lib.Dec.{T}
-use lib.ListN.{length, getD}
-use Rattle.symbols.specs.Symbol.{nonterminal}
-use Rattle.theory.specs.Parse.{Link}
-use Rattle.spans.specs.Area.{keyOf, keyAt}
+use Prim.Native.Nat.{ℕ, _+_, _-_, _≤_, _<_}
+use lib.ListN.{length}
+use Rattle.spans.specs.Area.{keyAt}
 use Rattle.spans.specs.Gathered.{Ascending}
 
 -- the key is at one of the places
@@ -25,8 +22,8 @@ pub record Belongs (a : List ℕ) (count key f : ℕ) : Type 0 where
 -- the keys from f on, up to `count`, each one place up
 pub record Opened (a b : List ℕ) (f count : ℕ) : Type 0 where
   pub long : length b ≡ length a
-  pub low : (e : ℕ) → e < f → keyAt b e ≡ keyAt a e
-  pub high : (e : ℕ) → f ≤ e → e < count → keyAt b (suc e) ≡ keyAt a e
+  pub low : (e : ℕ) → e ≤ f → keyAt b e ≡ keyAt a e
+  pub high : (e : ℕ) → f < e → e ≤ count → keyAt b e ≡ keyAt a (e - 1)
 
 -- the key is among the places, which are otherwise the same
 pub record Inserts (a b : List ℕ) (count key after : ℕ) : Type 0 where
