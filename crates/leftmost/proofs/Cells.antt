@@ -74,13 +74,15 @@ module _ {G : Grammar} {line : List ℕ} {S : Spans} {most : ℕ} where
       first-of : Told G line S most START 0 (length line) (σ START 0 (length line)) → (rs : List ℕ) × StartFirst G line S most σ rs
       first-of t =
           let f = t .fits in
-          let inner : Inner G line S most σ 0 (length line) (suc most) = λ y s m q a b z e h. all-told z e (omega arith) in
-          (σ START 0 (length line) .rule ∷ t .rest, record {
-            first = t .best;
-            cost = t .cost;
-            fits = t .fits;
-            says = told-says inner (omega arith) (omega arith) t (omega arith);
-          })
+          let inner : Inner G line S most σ 0 (length line) (suc most) = λ y s m q a b z e h. all-told z e (omega arith) in (
+            σ START 0 (length line) .rule ∷ t .rest,
+            record {
+              first = t .best;
+              cost = t .cost;
+              fits = t .fits;
+              says = told-says inner (omega arith) (omega arith) t (omega arith);
+            },
+          )
 
       -- START's span has a cost: it is the length of the first within, which fits and is said
       pub start-first : σ START 0 (length line) .cost ≢ 0 → (rs : List ℕ) × StartFirst G line S most σ rs

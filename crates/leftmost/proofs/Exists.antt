@@ -56,9 +56,9 @@ module _ {G : Grammar} {line : List ℕ} (lefts : Lefts G) where
     pub first-derives : Derives G (START ∷ []) line ↔ ((rs : List ℕ) × First G line rs)
     first-derives = (
       λ d.
-      let (rs, s) = preorder (derives-tree tokens .0 d) [] [] (append-nil line) in
-      let t = subst (λ j. Spells G line Any (START ∷ []) 0 j rs) (zero-add (length line)) s in
-      first-exists lefts placed line tokens (spells-leftmost tokens (START ∷ []) rs t),
+          let (rs, s) = preorder (derives-tree tokens .0 d) [] [] (append-nil line) in
+          let t = subst (λ j. Spells G line Any (START ∷ []) 0 j rs) (zero-add (length line)) s in
+          first-exists lefts placed line tokens (spells-leftmost tokens (START ∷ []) rs t),
       λ (rs, f). leftmost-derives (f .fewest .leads),
     )
 

@@ -124,9 +124,22 @@ Computed (c ∷ cs) = (T (allLeft (c .rules)) × (T (allTokens (c .line)) × (mo
 computed : Computed cases
 unfolding Computed cases modelled allLeft allTokens grammarOf rule list loop empties pairs twice
     derivation fewestFrom listed walk lowest or-else put _and_ when terminal nonterminal
-computed =
-    ((tt, (tt, refl)), ((tt, (tt, refl)), ((tt, (tt, refl)), ((tt, (tt, refl)), ((tt, (tt, refl)), 
-    ((tt, (tt, refl)), ((tt, (tt, refl)), ((tt, (tt, refl)), ((tt, (tt, refl)), ((tt, (tt, refl)), tt))))))))))
+computed = (
+  (tt, (tt, refl)),
+  (
+    (tt, (tt, refl)),
+    (
+      (tt, (tt, refl)),
+      (
+        (tt, (tt, refl)),
+        (
+          (tt, (tt, refl)),
+          ((tt, (tt, refl)), ((tt, (tt, refl)), ((tt, (tt, refl)), ((tt, (tt, refl)), ((tt, (tt, refl)), tt))))),
+        ),
+      ),
+    ),
+  ),
+)
 
 All : List Case → Type 0
 All [] = Unit {0}

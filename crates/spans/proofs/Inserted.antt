@@ -1,4 +1,4 @@
--- A key put where it belongs: room is made from the back, and the keys ascend as before. Assumes nothing.
+-- A key put where it belongs: the search is from the back, room is made from the back, and the keys ascend as before. Assumes nothing.
 use mathlib.Core.Path.{_≡_, refl, sym, ap, _∙_, subst}
 use mathlib.Core.Logic.{_≢_, _⊎_, inl, inr}
 use mathlib.Core.List.{List}
@@ -10,6 +10,31 @@ use lib.Seq.{getD-set-same, getD-set-other}
 use Rattle.spans.specs.Area.{keyAt}
 use Rattle.spans.specs.Gathered.{Ascending}
 use Rattle.spans.specs.Steps.{Has, Belongs, Opened, Inserts}
+
+-- ---- where the key belongs
+
+-- the keys from e on are greater
+pub record Over (a : List ℕ) (count key e : ℕ) : Type 0 where
+  pub inside : e ≤ count
+  pub greater : (i : ℕ) → e ≤ i → i < count → key < keyAt a i
+
+pub over-start : (a : List ℕ) (count key : ℕ) → Over a count key count
+over-start a count key = record { inside = omega arith; greater = λ i h l. absurd (omega arith) }
+
+pub over-next : {a : List ℕ} {count key e : ℕ} → Over a count key e → key < keyAt a (e - 1) → Over a count key (e - 1)
+over-next {a} {e = e} o h = record {
+  inside = omega (arith, o .inside);
+  greater = λ i g l. elim (ℕ-discrete i (e - 1)) [
+    | yes q ↦ let r = ap (keyAt a) q in omega arith
+    | no d ↦ o .greater i (omega arith) l
+  ];
+}
+
+pub over-found : {a : List ℕ} {count key e : ℕ} → Over a count key e → keyAt a (e - 1) ≤ key → Belongs a count key e
+over-found o h = record { inside = o .inside; before = λ g. h; after = o .greater }
+
+pub over-all : {a : List ℕ} {count key e : ℕ} → Over a count key e → e ≡ 0 → Belongs a count key 0
+over-all o q = record { inside = omega arith; before = λ h. absurd (omega arith); after = λ i h l. o .greater i (omega arith) l }
 
 -- ---- room made
 
@@ -32,8 +57,8 @@ open-end {a} {b} {count = count} q o = subst (λ e. Opened a b e count) q o
 -- ---- the key put there
 
 module _ {a : List ℕ} {count key f : ℕ} (ascending : Ascending a count) (belongs : Belongs a count key f) where
-  pub insert-none : 0 < f → keyAt a (f - 1) ≡ key → Inserts a a count key count
-  insert-none some same = record {
+  pub insert-none : (0 < f) × (keyAt a (f - 1) ≡ key) → Inserts a a count key count
+  insert-none (some, same) = record {
     long = refl;
     more = omega arith;
     ascending = ascending;
@@ -42,7 +67,7 @@ module _ {a : List ℕ} {count key f : ℕ} (ascending : Ascending a count) (bel
     only = λ e h. inr (record { place = e; inside = h; is = refl });
   }
 
-  module _ {b : List ℕ} (opened : Opened a b f count) (room : count < length a) (new : (0 < f → keyAt a (f - 1) ≢ key)) where
+  module _ {b : List ℕ} (opened : Opened a b f count) (room : count < length a) (new : ((0 < f) × (keyAt a (f - 1) ≡ key) → ⊥)) where
     abbrev c : List ℕ
     c = set b f key
 
@@ -59,7 +84,7 @@ module _ {a : List ℕ} {count key f : ℕ} (ascending : Ascending a count) (bel
     lower : (e : ℕ) → e < f → keyAt a e < key
     lower e h =
         let l = belongs .before (omega arith) in
-        let d = new (omega arith) in
+        let d : keyAt a (f - 1) ≢ key = λ q. new (omega arith, q) in
         elim (ℕ-discrete e (f - 1)) [
           | yes q ↦ let r = ap (keyAt a) q in omega arith
           | no n ↦ omega (arith, ascending e (f - 1) (omega arith) (omega (arith, belongs .inside)))
@@ -72,15 +97,15 @@ module _ {a : List ℕ} {count key f : ℕ} (ascending : Ascending a count) (bel
           | no p ↦ elim (ℕ-discrete g f) [
             | yes q ↦ omega (arith, below e (omega arith), here g q, lower e (omega arith))
             | no q ↦
-            let top = above g (omega arith) (omega arith) in
-            let over = belongs .after (g - 1) (omega arith) (omega arith) in
-            elim (decLt e f) [
-              | yes r ↦ omega (arith, below e r, lower e r)
-              | no r ↦ elim (ℕ-discrete e f) [
-                | yes s ↦ omega (arith, here e s)
-                | no s ↦ omega (arith, above e (omega arith) (omega arith), ascending (e - 1) (g - 1) (omega arith) (omega arith))
-              ]
-            ]
+                let top = above g (omega arith) (omega arith) in
+                let over = belongs .after (g - 1) (omega arith) (omega arith) in
+                elim (decLt e f) [
+                  | yes r ↦ omega (arith, below e r, lower e r)
+                  | no r ↦ elim (ℕ-discrete e f) [
+                    | yes s ↦ omega (arith, here e s)
+                    | no s ↦ omega (arith, above e (omega arith) (omega arith), ascending (e - 1) (g - 1) (omega arith) (omega arith))
+                  ]
+                ]
           ]
         ]
 
@@ -93,8 +118,8 @@ module _ {a : List ℕ} {count key f : ℕ} (ascending : Ascending a count) (bel
       held = λ e h. elim (decLt e f) [
         | yes p ↦ record { place = e; inside = omega arith; is = below e p }
         | no p ↦
-        let q : e + 1 - 1 ≡ e = omega arith in
-        record { place = e + 1; inside = omega arith; is = above (e + 1) (omega arith) (omega arith) ∙ ap (keyAt a) q }
+            let q : e + 1 - 1 ≡ e = omega arith in
+            record { place = e + 1; inside = omega arith; is = above (e + 1) (omega arith) (omega arith) ∙ ap (keyAt a) q }
       ];
       only = λ e h. elim (decLt e f) [
         | yes p ↦ inr (record { place = e; inside = omega (arith, belongs .inside); is = sym (below e p) })

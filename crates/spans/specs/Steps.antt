@@ -1,11 +1,37 @@
--- The steps of gathering: one key put among those that are there, a link taken, numbers made zero. Assumes nothing.
+-- The steps of gathering: the symbols of the sets, one key put among those that are there, a link taken, the first places. Assumes nothing.
 use mathlib.Core.Path.{_≡_}
 use mathlib.Core.Logic.{_⊎_}
 use mathlib.Core.List.{List}
-use Prim.Native.Nat.{ℕ, _+_, _-_, _≤_, _<_}
-use lib.ListN.{length}
-use Rattle.spans.specs.Area.{keyAt}
+use Prim.Native.Nat.{ℕ, _+_, _-_, _*_, _≤_, _<_}
+use lib.Dec.{T}
+use lib.ListN.{length, getD}
+use Rattle.symbols.specs.Symbol.{nonterminal}
+use Rattle.leftmost.specs.Shown.{beforeFirst}
+use Rattle.table.specs.Layout.{setsIn, rulesIn, kernelSeen, viewRules}
+use Rattle.table.specs.Laid.{LaidRules, Within}
+use Rattle.links.specs.Records.{source, under, position, inSet}
+use Rattle.spans.specs.Area.{keyOf, keyAt}
 use Rattle.spans.specs.Gathered.{Ascending}
+
+-- ---- the symbols
+
+-- rules as they are laid out, and kernels of these rules
+pub record Kernels (rules words : List ℕ) : Type 0 where
+  pub laid : LaidRules rules
+  pub few-sets : setsIn rules ≤ 255
+  pub long : setsIn rules * 18 ≤ length words
+  pub within : (s : ℕ) → s < setsIn rules → Within (rulesIn rules) words (s * 18)
+
+-- the symbol that set s is reached by, read off these
+unfoldable pub symbolIn : List ℕ → List ℕ → ℕ → ℕ
+symbolIn rules words s = beforeFirst (viewRules rules) (kernelSeen (rulesIn rules) words (s * 18))
+
+-- the list has the symbols of the sets below n
+pub record Symbols (rules words : List ℕ) (n : ℕ) (l : List ℕ) : Type 0 where
+  pub long : length l ≡ 256
+  pub each : (s : ℕ) → s < n → getD l s 0 ≡ symbolIn rules words s
+
+-- ---- a key inserted
 
 -- the key is at one of the places
 pub record Has (a : List ℕ) (count key : ℕ) : Type 0 where

@@ -1,18 +1,23 @@
+use Prim.Native.Nat.{_≤_, _-_}
+use native.Mathlib.Omega.{arith}
+use lib.ListN.{length, length-set}
+use Rattle.spans.specs.Steps.{Opened}
+use Rattle.spans.proofs.Inserted.{open-start, open-next, open-end}
 use borrow.Author.Needs.{needs}
-use Rattle.spans.proofs.insertion.open.Statement.{statement}
-use Rattle.spans.proofs.insertion.open.Tie as tie
-use Rattle.spans.proofs.insertion.open.Reads as reads
-use Rattle.spans.proofs.insertion.open.Lts as lts
+use Rattle.spans.proofs.insertion.make_room.Statement.{statement}
+use Rattle.spans.proofs.insertion.make_room.Tie as tie
+use Rattle.spans.proofs.insertion.make_room.Reads as reads
+use Rattle.spans.proofs.insertion.make_room.Lts as lts
 
 abbrev Inv-loop : tie.InvT-loop
-Inv-loop area₀ from count e₀ area e = ?
+Inv-loop area₀ from count e₀ area e = (from ≤ e) × (e ≤ count) × Opened area₀ area e count
 
 abbrev μ-loop : tie.MeasureT-loop
-μ-loop area₀ from count e₀ area e = ?
+μ-loop area₀ from count e₀ area e = e
 
 -- src/insertion.rt:46:5
 loop-holds : tie.Need-loop-holds Inv-loop μ-loop
-loop-holds c = search needs
+loop-holds c = (omega arith, omega arith, open-start _ _)
 
 -- src/insertion.rt:47:24
 sub-area : tie.Need-sub-area Inv-loop μ-loop
@@ -44,7 +49,12 @@ loop-less c = search needs
 
 -- src/insertion.rt:46:5
 loop-again : tie.Need-loop-again Inv-loop μ-loop
-loop-again c = search needs
+loop-again c = (
+  omega arith,
+  omega arith,
+  open-next _ _ _ _ (omega arith) (omega (arith, c .before .before .loop .inv .2 .long))
+      (c .before .before .loop .inv .2),
+)
 
 -- src/insertion.rt:41:1
 same-length : tie.Need-same-length Inv-loop μ-loop
@@ -52,10 +62,10 @@ same-length c = search needs
 
 -- src/insertion.rt:41:1
 returns : tie.Need-returns Inv-loop μ-loop
-returns c = search needs
+returns c = open-end (omega arith) (c .before .loop .inv .2)
 
-pub open-spec : {M : Type 1} → statement M
-open-spec =
+pub make-room-spec : {M : Type 1} → statement M
+make-room-spec =
     tie.close
     (tie.spec
     Inv-loop
