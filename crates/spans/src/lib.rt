@@ -1,6 +1,8 @@
 // The work area of a derivation, and the spans of the links in it.
 mod area; // area.rt: the numbers of the area, one at a time
+mod gathering; // gathering.rt: the spans of the links
 mod insertion; // insertion.rt: a key put among the others
+mod firsts; // firsts.rt: where each end begins
 mod symbols_of; // symbols_of.rt: the symbol that each set is reached by
 
 pub use area::BESIDE;

@@ -1,3 +1,4 @@
+use Rattle.spans.proofs.Reached.{dot-read}
 use borrow.Author.Needs.{needs}
 use Rattle.spans.proofs.symbols_of.before_dot.Statement.{statement}
 use Rattle.spans.proofs.symbols_of.before_dot.Tie as tie
@@ -30,7 +31,7 @@ shared-slice-read-result c = search needs
 
 -- src/symbols_of.rt:40:1
 returns-2 : tie.Need-returns-2
-returns-2 c = search needs
+returns-2 c = dot-read (c .before .before .pre .0) _ _ (c .before .before .pre .1 .0) (c .before .before .pre .1 .1) (c .before .if1 .left)
 
 pub before-dot-spec : {M : Type 1} → statement M
 before-dot-spec =

@@ -1,3 +1,6 @@
+use native.Mathlib.Omega.{arith}
+use Rattle.laws.proofs.Places.{the}
+use Rattle.spans.proofs.Reached.{item-inside, symbol-first, symbol-none}
 use borrow.Author.Needs.{needs}
 use Rattle.spans.proofs.symbols_of.symbol_of.Statement.{statement}
 use Rattle.spans.proofs.symbols_of.symbol_of.Tie as tie
@@ -20,7 +23,11 @@ enum-known-found c = search needs
 
 -- src/symbols_of.rt:34:28
 before-dot-requires : tie.Need-before-dot-requires
-before-dot-requires c κs = search needs
+before-dot-requires c κs =
+    let start : tie.Start = search in
+    let next = the tie.After-next (search) .next in
+    let inside = item-inside (start .pre .0) (start .pre .1) (the tie.After-found (search) .found .given .1) (next .ensures) in
+    (start .pre .0 .laid, (omega arith, omega arith))
 
 -- src/symbols_of.rt:35:27
 enum-told : tie.Need-enum-told
@@ -28,11 +35,18 @@ enum-told c = search needs
 
 -- src/symbols_of.rt:28:1
 returns : tie.Need-returns
-returns c = search needs
+returns c =
+    let start : tie.Start = search in
+    let next = the tie.After-next (search) .next in
+    symbol-first (start .pre .0) (start .pre .1) (the tie.After-found (search) .found .given .1) (next .ensures)
+    (c .before-dot .ensures)
 
 -- src/symbols_of.rt:28:1
 returns-2 : tie.Need-returns-2
-returns-2 c = search needs
+returns-2 c =
+    let start : tie.Start = search in
+    let next = the tie.After-next (search) .next in
+    symbol-none (start .pre .0) (start .pre .1) (c .enum-told .given .1) (next .ensures)
 
 pub symbol-of-spec : {M : Type 1} → statement M
 symbol-of-spec =
