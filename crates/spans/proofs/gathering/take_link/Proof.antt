@@ -1,3 +1,8 @@
+use denote.Ref.{now}
+use native.Mathlib.Omega.{arith}
+use Rattle.laws.proofs.Choice.{yes-of, no-of}
+use Rattle.laws.proofs.Places.{the}
+use Rattle.spans.proofs.Taken.{node-end, below-start, set-small, take-other, take-span, symbol-low}
 use borrow.Author.Needs.{needs}
 use Rattle.spans.proofs.gathering.take_link.Statement.{statement}
 use Rattle.spans.proofs.gathering.take_link.Tie as tie
@@ -30,7 +35,10 @@ number-requires-2 c κs = search needs
 
 -- src/gathering.rt:65:13
 element-copy-out-x : tie.Need-element-copy-out-x
-element-copy-out-x c = search needs
+element-copy-out-x c =
+    let start : tie.Start = search in
+    set-small (now (start .args .links)) (now (start .args .symbols)) (start .args .k) (c .before .number .ensures)
+    (c .number2 .ensures) (start .pre .0)
 
 -- src/gathering.rt:66:9
 is-nonterminal-requires : tie.Need-is-nonterminal-requires
@@ -38,7 +46,12 @@ is-nonterminal-requires c κs = search needs
 
 -- src/gathering.rt:67:9
 returns : tie.Need-returns
-returns c = search needs
+returns c =
+    let start : tie.Start = search in
+    let number = the tie.After-number (search) .number in
+    let number2 = the tie.After-number2 (search) .number2 in
+    take-other (now (start .args .links)) (now (start .args .symbols)) (start .args .k) (number .ensures)
+    (number2 .ensures) (no-of (c .before .is-nonterminal .ensures) (c .if1 .taken))
 
 -- src/gathering.rt:69:36
 mul-number-3 : tie.Need-mul-number-3
@@ -78,11 +91,26 @@ number-requires-5 c κs = search needs
 
 -- src/gathering.rt:72:32
 cast-key-of : tie.Need-cast-key-of
-cast-key-of c = search needs
+cast-key-of c =
+    let is-nonterminal = the tie.After-is-nonterminal (search) .is-nonterminal in
+    let if1 = the tie.Else1 (search) .if1 in
+    omega (arith, symbol-low _ (is-nonterminal .ensures) (if1 .left))
 
 -- src/gathering.rt:72:25
 key-of-requires : tie.Need-key-of-requires
-key-of-requires c κs = search needs
+key-of-requires c κs =
+    let start : tie.Start = search in
+    let number = the tie.After-number (search) .number in
+    let is-nonterminal = the tie.After-is-nonterminal (search) .is-nonterminal in
+    let if1 = the tie.Else1 (search) .if1 in
+    let number3 = the tie.After-number3 (search) .number3 in
+    let number4 = the tie.After-number4 (search) .number4 in
+    let low = symbol-low _ (is-nonterminal .ensures) (if1 .left) in
+    let begin = below-start (now (start .args .links)) (start .args .k) (number4 .ensures) (c .before .number5 .ensures)
+    (start .pre .0) in
+    let finish =
+    node-end (now (start .args .links)) (start .args .k) (number .ensures) (number3 .ensures) (start .pre .0) in
+    (omega arith, (begin, finish))
 
 -- src/gathering.rt:72:5
 insert-requires : tie.Need-insert-requires
@@ -94,7 +122,20 @@ same-length c = search needs
 
 -- src/gathering.rt:59:1
 returns-2 : tie.Need-returns-2
-returns-2 c = search needs
+returns-2 c =
+    let start : tie.Start = search in
+    let number = the tie.After-number (search) .number in
+    let number2 = the tie.After-number2 (search) .number2 in
+    let is-nonterminal = the tie.After-is-nonterminal (search) .is-nonterminal in
+    let if1 = the tie.Else1 (search) .if1 in
+    let number3 = the tie.After-number3 (search) .number3 in
+    let number4 = the tie.After-number4 (search) .number4 in
+    let number5 = the tie.After-number5 (search) .number5 in
+    let key-of = the tie.After-key-of (search) .key-of in
+    let insert = the tie.After-insert (search) .insert in
+    take-span (now (start .args .links)) (now (start .args .symbols)) (start .args .k) (number .ensures)
+    (number2 .ensures) (yes-of (is-nonterminal .ensures) (if1 .left)) (number3 .ensures) (number4 .ensures)
+    (number5 .ensures) (key-of .ensures) (insert .ensures)
 
 pub take-link-spec : {M : Type 1} → statement M
 take-link-spec =
