@@ -1,6 +1,8 @@
 -- Laws of the work area.
+pub mod Keys
 pub mod Reached
 pub mod Inserted
+pub mod Taken
 pub mod SameKeys
 pub mod Begun
-pub mod Taken
+pub mod Gathered
