@@ -191,6 +191,7 @@ module _ {rs ws : List ℕ} {n : ℕ} {b : List ℕ} {l : ℕ} (graphed : Graphe
           pub gathered : Gathered t line (linksIn b l) g after
           gathered = record {
             ordered = record {
+              short = omega (arith, line-low);
               room = omega (arith, begun .long, long-f);
               few = few;
               ascending = same-ascending keys-g (same-ascending keys-f (inserts .ascending));

@@ -6,3 +6,4 @@ pub mod Taken
 pub mod SameKeys
 pub mod Begun
 pub mod Gathered
+pub mod Placed

@@ -38,11 +38,18 @@ Ascending a count = (e f : ℕ) → e < f → f < count → keyAt a e < keyAt a 
 -- the keys are in order, and the first place of each end, 0 to n, is there; the last of these numbers is the number of spans. Costs and
 -- choices have no part in it
 pub record Ordered (n : ℕ) (a : List ℕ) (count : ℕ) : Type 0 where
+  pub short : n ≤ 255
   pub room : areaFor n ≤ length a
   pub few : count ≤ 4097
   pub ascending : Ascending a count
   pub firsts : (j : ℕ) → j ≤ n + 1 → First a count j (firstAt a j)
   pub last : firstAt a (n + 1) ≡ count
+
+-- the same, and j is an end of the line
+pub record OrderedAt (j : ℕ) (a : List ℕ) (count : ℕ) : Type 0 where
+  pub n : ℕ
+  pub inside : j ≤ n
+  pub ordered : Ordered n a count
 
 -- the places are those of the spans that the links show, and of no others
 pub record Shows (t : Table) (line : List ℕ) (ls : List Link) (a : List ℕ) (count : ℕ) : Type 0 where
