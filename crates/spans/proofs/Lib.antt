@@ -7,3 +7,4 @@ pub mod SameKeys
 pub mod Begun
 pub mod Gathered
 pub mod Placed
+pub mod Store
