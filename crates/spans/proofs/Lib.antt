@@ -8,3 +8,4 @@ pub mod Begun
 pub mod Gathered
 pub mod Placed
 pub mod Store
+pub mod Graphed
