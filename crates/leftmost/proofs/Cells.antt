@@ -1,27 +1,27 @@
 -- Cell after cell: by end, and within an end from the latest start to the first. A span's parts end earlier, or begin no earlier and end
 -- with it, so only the cell at hand is unsettled. At last every span is right; so START's span has the cost of the first within and says
 -- it, exactly where it fits. Of any spans of the line, closed or not. Assumes nothing.
-use mathlib.Core.Path.{_≡_, sym, _∙_, ap, subst}
-use mathlib.Core.Logic.{_≢_, _⊎_, inl, inr, ⊎-elim}
+use mathlib.Core.Path.{_≡_}
+use mathlib.Core.Logic.{_≢_, inl, inr, ⊎-elim}
 use mathlib.Core.List.{List, [], _∷_, append-nil, List·Memᴰ·not-nil}
-use Prim.Native.Nat.{ℕ, zero, suc, _≤_, _<_}
+use Prim.Native.Nat.{ℕ, suc, _≤_, _<_}
 use native.Mathlib.Decide.{ℕ-discrete}
 use native.Mathlib.Omega.{arith}
 use lib.ListN.{length}
 use Rattle.symbols.specs.Symbol.{START}
 use Rattle.theory.specs.Derivation.{Grammar}
 use Rattle.leftmost.specs.Within.{Spans, Spells, FirstWithin, OfLine}
+use Rattle.leftmost.specs.Within.Spells.{stop, apply}
 use Rattle.leftmost.specs.Kept.{Store}
 use Rattle.leftmost.specs.Says.{Says}
-use Rattle.leftmost.specs.Cells.{Told, Right, Cell, Settled, Done, Until}
-use Rattle.leftmost.specs.Within.Spells.{stop, apply}
+use Rattle.leftmost.specs.Cells.{Told, Right, Until}
 use Rattle.leftmost.specs.Cells.Pass.{through}
 use Rattle.leftmost.specs.Cells.Rounds.{none}
 use Rattle.leftmost.specs.Cells.Settled.{stable}
 use Rattle.leftmost.proofs.Order.{low-or-high}
 use Rattle.leftmost.proofs.Said.{said-all, all-spells}
 use Rattle.leftmost.proofs.Inner.{Inner, told-says}
-use Rattle.leftmost.proofs.Rounds.{is-told, settled-right}
+use Rattle.leftmost.proofs.Rounds.{is-told, next-cell}
 
 -- what is kept of START's span: the first within, where it fits
 pub record StartFirst (G : Grammar) (line : List ℕ) (S : Spans) (most : ℕ) (σ : Store) (rs : List ℕ) : Type 0 where
@@ -40,14 +40,11 @@ module _ {G : Grammar} {line : List ℕ} {S : Spans} {most : ℕ} where
     right = λ x i j s d. absurd (⊎-elim (λ h. omega arith) (λ (e, h). let a = of-line .ahead x i j s in omega arith) d);
   }
 
-  -- a cell that is settled
-  pub next-cell : OfLine line S → {i j : ℕ} {xs : List ℕ} → Cell S i j xs → {σ υ : Store} → Until G line S most (suc i) j σ
-      → Settled G line most i j xs σ υ → Until G line S most i j υ
-  next-cell of-line cell u s = settled-right of-line cell u s
-
-  -- a cell without spans
-  pub skip-cell : OfLine line S → {i j : ℕ} → ((x : ℕ) → S x i j → ⊥) → {σ : Store} → Until G line S most (suc i) j σ → Until G line S most i j σ
-  skip-cell of-line empty u = next-cell of-line {xs = []} (λ x. (λ m. absurd (List·Memᴰ·not-nil m), λ s. absurd (empty x s))) u (stable none through)
+  -- a cell without spans (one with spans: `next-cell` of Rounds)
+  pub skip-cell : OfLine line S → {i j : ℕ} → ((x : ℕ) → S x i j → ⊥) → {σ : Store} → Until G line S most (suc i) j σ
+      → Until G line S most i j σ
+  skip-cell of-line empty u =
+      next-cell of-line {xs = []} (λ x. (λ m. absurd (List·Memᴰ·not-nil m), λ s. absurd (empty x s))) u (stable none through)
 
   -- the next end
   pub next-end : OfLine line S → {j : ℕ} {σ : Store} → Until G line S most 0 j σ → Until G line S most (suc (suc j)) (suc j) σ
@@ -67,7 +64,8 @@ module _ {G : Grammar} {line : List ℕ} {S : Spans} {most : ℕ} where
         u .right x s m z (elim (ℕ-discrete m (length line)) [ yes e ↦ inr (e, omega arith) | no n ↦ inl (omega arith) ])
 
     -- every span with a derivation that fits is told
-    pub all-told : {x s m : ℕ} {q : List ℕ} → S x s m → Spells G line S (x ∷ []) s m q → length q ≤ most → Told G line S most x s m (σ x s m)
+    pub all-told : {x s m : ℕ} {q : List ℕ} → S x s m → Spells G line S (x ∷ []) s m q → length q ≤ most
+        → Told G line S most x s m (σ x s m)
     all-told z d h = is-told (all-right z) d (omega arith)
 
     module _ (start : S START 0 (length line)) where
@@ -91,9 +89,13 @@ module _ {G : Grammar} {line : List ℕ} {S : Spans} {most : ℕ} where
           let p = said-all (u .sound) (o .total) in
           let a = p .short in
           let c = o .fits in
-          let d = apply (σ START 0 (length line) .rule) (o .current) (o .left) start (all-spells (u .sound) (p .is)) stop (append-nil (p .list)) in
+          let s = all-spells (u .sound) (p .is) in
+          let d = apply (σ START 0 (length line) .rule) (o .current) (o .left) start s stop (append-nil (p .list)) in
           first-of (all-told start d (omega arith))
 
       -- it has none: every derivation within is longer than the buffer
-      pub start-none : σ START 0 (length line) .cost ≡ 0 → (qs : List ℕ) → Spells G line S (START ∷ []) 0 (length line) qs → most < length qs
-      start-none e qs d = ⊎-elim (λ h. let t = all-told start d h in let c = t .cost in absurd (omega arith)) (λ h. h) (low-or-high (length qs) most)
+      pub start-none : σ START 0 (length line) .cost ≡ 0 → (qs : List ℕ) → Spells G line S (START ∷ []) 0 (length line) qs
+          → most < length qs
+      start-none e qs d = ⊎-elim
+          (λ h. let t = all-told start d h in let c = t .cost in absurd (omega arith))
+          (λ h. h) (low-or-high (length qs) most)

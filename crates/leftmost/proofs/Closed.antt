@@ -1,5 +1,4 @@
 -- Where every derivation of the line is within the spans, the first within is the first of all. Assumes nothing.
-use mathlib.Core.Path.{_≡_}
 use mathlib.Core.Logic.{_↔_}
 use mathlib.Core.List.{List, [], _∷_}
 use Prim.Native.Nat.{ℕ}

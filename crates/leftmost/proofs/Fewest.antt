@@ -1,6 +1,6 @@
 -- The model lists what W-207 asks for: the first of the fewest where it fits into so many places, and nothing just where none does.
 -- So a first of the fewest exists wherever there is a derivation. Assumes nothing.
-use mathlib.Core.Path.{_≡_, refl, sym, _∙_, ap, subst}
+use mathlib.Core.Path.{_≡_, refl, _∙_, ap, subst}
 use mathlib.Core.Logic.{_↔_}
 use mathlib.Core.List.{List, [], _∷_}
 use Prim.Native.Nat.{ℕ, zero, suc, _+_, _≤_, _<_}
@@ -80,7 +80,10 @@ module _ {G : Grammar} (lefts : Lefts G) {places : ℕ} (placed : Placed G place
     model-lists most rs = (λ e. to (model-best most) e, λ (f, h). from (model-best most) f h)
       where
         to : {d : Found} → FewestOf G line (START ∷ []) 0 (length line) (suc most) d → d ≡ some rs → First G line rs × (length rs ≤ most)
-        to (best {rs = qs} b l) e = let q : qs ≡ rs = cc in (subst (First G line) q (is-first qs .1 b), (let m = ap length q in omega arith))
+        to (best {rs = qs} b l) e =
+            let q : qs ≡ rs = cc in
+            let m = ap length q in
+            (subst (First G line) q (is-first qs .1 b), omega arith)
         to (longer f) e = absurd (let z : _≡_ {A = ℕ} 0 1 = cc in omega arith)
 
         from : {d : Found} → FewestOf G line (START ∷ []) 0 (length line) (suc most) d → First G line rs → length rs ≤ most → d ≡ some rs

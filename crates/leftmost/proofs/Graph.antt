@@ -1,9 +1,9 @@
 -- The spans of the graph of links are closed: over an automaton whose sets at nodes are LR(0) expansions, a derivation that goes on from a
 -- node by one of the node's items has a link over each of its symbols. And they lie within the line, over any automaton.
 -- Assumes nothing.
-use mathlib.Core.Path.{_≡_, refl, sym, _∙_, subst}
+use mathlib.Core.Path.{_≡_, refl}
 use mathlib.Core.List.{List, [], _∷_}
-use Prim.Native.Nat.{ℕ, zero, suc, _≤_, zero-le}
+use Prim.Native.Nat.{ℕ, suc, _≤_, zero-le}
 use native.Mathlib.Omega.{arith}
 use lib.Dec.{T}
 use lib.ListN.{length, drop}
@@ -59,7 +59,8 @@ module _ {G : Grammar} {A : Automaton} {line : List ℕ} (tokens : Tokens line) 
   pub graph-closed : Lefts G → Closed G line (AtHand G A line)
   graph-closed lefts rs d = go (any-closed tokens lefts rs d)
     where
-      go : {qs : List ℕ} → Spells G line Any (START ∷ []) 0 (length line) qs → Spells G line (AtHand G A line) (START ∷ []) 0 (length line) qs
+      go : {qs : List ℕ} → Spells G line Any (START ∷ []) 0 (length line) qs
+          → Spells G line (AtHand G A line) (START ∷ []) 0 (length line) qs
       go (token t h e s) = absurd (let (a, b) = is-terminal START .0 t in omega arith)
       go (apply r cur left z a stop p) =
           let first = 𝓢 .start .1 (record { at-first = refl; current = cur; of-start = left }) in

@@ -1,11 +1,9 @@
 -- Setting a span to what it comes to keeps the store sound: no cost rises, so every choice kept still adds up. Assumes nothing.
 use mathlib.Core.Path.{_≡_, refl, sym, _∙_, ap, subst}
-use mathlib.Core.Logic.{_≢_, _⊎_, inl, inr, ⊎-elim}
-use mathlib.Core.List.{List, [], _∷_}
-use Prim.Native.Nat.{ℕ, zero, suc, _+_, _≤_, _<_}
+use mathlib.Core.Logic.{_≢_, ⊎-elim}
+use mathlib.Core.List.{List}
+use Prim.Native.Nat.{ℕ, suc, _+_, _≤_}
 use native.Mathlib.Omega.{arith}
-use lib.Dec.{T}
-use lib.ListN.{length}
 use Rattle.theory.specs.Derivation.{Grammar}
 use Rattle.leftmost.specs.Within.{Spans}
 use Rattle.leftmost.specs.Kept.{Kept, Store, Sets, Total, Offer, Backed, Sound}
@@ -33,6 +31,7 @@ less {τ = τ} l (span {y = y} {i = i} {m = m} z s e) =
 
 module _ {G : Grammar} {line : List ℕ} {S : Spans} {most : ℕ} {σ τ : Store} {x i j : ℕ} {k : Kept} (at-hand : S x i j)
     (sound : Sound G line S most σ) (comes : Comes G line most σ x i j k) (sets : Sets σ τ x i j k) where
+  -- no cost rises
   lower-at : σ x i j .cost ≢ 0 → (k .cost ≢ 0) × (k .cost ≤ σ x i j .cost)
   lower-at z = go comes
     where
@@ -66,7 +65,12 @@ module _ {G : Grammar} {line : List ℕ} {S : Spans} {most : ℕ} {σ τ : Store
       go (offered {c = c} e o f) =
           let (d, p, h) = offer-still o in
           let q : suc d ≤ τ x i j .cost = (let w = ap (λ t. t .cost) (sets .at) in omega arith) in
-          record { within = at-hand; sum = d; offer = subst (λ t. Offer G line most τ x i j (t .rule) (t .ends) d) (sym (sets .at)) p; enough = q }
+          record {
+            within = at-hand;
+            sum = d;
+            offer = subst (λ t. Offer G line most τ x i j (t .rule) (t .ends) d) (sym (sets .at)) p;
+            enough = q;
+          }
 
   pub sound-kept : Sound G line S most τ
   sound-kept y s m = ⊎-elim

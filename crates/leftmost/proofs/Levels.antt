@@ -3,7 +3,7 @@
 use mathlib.Core.Path.{_≡_, refl, sym, _∙_, ap, subst}
 use mathlib.Core.Logic.{_≢_, _⊎_, inl, inr, ⊎-elim}
 use mathlib.Core.List.{List, [], _∷_, _++_}
-use Prim.Native.Nat.{ℕ, zero, suc, _+_, _≤_, _<_}
+use Prim.Native.Nat.{ℕ, suc, _+_, _≤_, _<_}
 use native.Mathlib.Decide.{ℕ-discrete}
 use native.Mathlib.Omega.{arith}
 use lib.Dec.{T}
@@ -13,11 +13,11 @@ use Rattle.theory.specs.Derivation.{Grammar}
 use Rattle.leftmost.specs.Leftmost.{Before}
 use Rattle.leftmost.specs.Kept.{Kept, Store, Total, Offer, NoTokens}
 use Rattle.leftmost.specs.Kept.Total.{end as ended, token as passed, span as spanned}
-use Rattle.leftmost.specs.Says.{Says, SaysAll, Ahead, Precedes}
+use Rattle.leftmost.specs.Says.{Says, SaysAll, Ahead, Foremost, Precedes}
 use Rattle.leftmost.specs.Says.SaysAll.{token, span}
 use Rattle.leftmost.specs.Comes.{Comes}
 use Rattle.leftmost.specs.Comes.Comes.{offered}
-use Rattle.leftmost.specs.Levels.{Leads, Level}
+use Rattle.leftmost.specs.Levels.{Leads, Level, Chosen}
 use Rattle.leftmost.proofs.Order.{before-longer, before-after, low-or-high}
 use Rattle.leftmost.proofs.Said.{not-said, said-once}
 use Rattle.leftmost.proofs.Walked.{precedes-before}
@@ -30,8 +30,8 @@ record Parted (G : Grammar) (line : List ℕ) (σ : Store) (y : ℕ) (ys : List 
   backs : SaysAll G line σ ys m ms j back
   joined : front ++ back ≡ qs
 
-parted : {G : Grammar} {line : List ℕ} {σ : Store} {y i m j : ℕ} {ys ms qs : List ℕ} → (T (terminal y) → ⊥) → SaysAll G line σ (y ∷ ys) i (m ∷ ms) j qs
-    → Parted G line σ y ys i m ms j qs
+parted : {G : Grammar} {line : List ℕ} {σ : Store} {y i m j : ℕ} {ys ms qs : List ℕ} → (T (terminal y) → ⊥)
+    → SaysAll G line σ (y ∷ ys) i (m ∷ ms) j qs → Parted G line σ y ys i m ms j qs
 parted n (token t h e u) = absurd (n t)
 parted n (span {q = q} {ps = w} s u e) = record { front = q; back = w; fronts = s; backs = u; joined = e }
 
@@ -40,7 +40,7 @@ module _ {G : Grammar} {line : List ℕ} {σ : Store} (none : NoTokens σ) where
   pub leads-end : {j : ℕ} → Leads G line σ [] j j [] 0
   leads-end = record { total = ended; first = λ ns d t. go t }
     where
-      go : {i j d : ℕ} {ns : List ℕ} → Total line σ [] i ns j d → (0 < d) ⊎ ((0 ≡ d) × (([] ≡ ns) ⊎ Ahead G line σ [] i j [] ns))
+      go : {i j d : ℕ} {ns : List ℕ} → Total line σ [] i ns j d → (0 < d) ⊎ ((0 ≡ d) × Foremost G line σ [] i j [] ns)
       go ended = inr (refl, inl refl)
 
   -- under a token
@@ -53,57 +53,74 @@ module _ {G : Grammar} {line : List ℕ} {σ : Store} (none : NoTokens σ) where
       ahead a qs ps (span s u p) v = absurd (not-said none t s)
       ahead a qs ps (token t h e u) (span s v p) = absurd (not-said none t s)
 
-      go : {d : ℕ} {ns : List ℕ} → Total line σ (y ∷ ys) i ns j d → (c < d) ⊎ ((c ≡ d) × ((suc i ∷ ms ≡ ns) ⊎ Ahead G line σ (y ∷ ys) i j (suc i ∷ ms) ns))
-      go (passed t′ h′ e′ w) = ⊎-elim (λ a. inl a) (λ (a, b). inr (a, ⊎-elim (λ q. inl (ap (λ u. suc i ∷ u) q)) (λ q. inr (ahead q)) b)) (l .first _ _ w)
+      foremost : {ns : List ℕ} → Foremost G line σ ys (suc i) j ms ns → Foremost G line σ (y ∷ ys) i j (suc i ∷ ms) (suc i ∷ ns)
+      foremost (inl q) = inl (ap (λ u. suc i ∷ u) q)
+      foremost (inr a) = inr (ahead a)
+
+      go : {d : ℕ} {ns : List ℕ} → Total line σ (y ∷ ys) i ns j d → (c < d) ⊎ ((c ≡ d) × Foremost G line σ (y ∷ ys) i j (suc i ∷ ms) ns)
+      go (passed t′ h′ e′ w) = ⊎-elim (λ a. inl a) (λ (a, b). inr (a, foremost b)) (l .first _ _ w)
       go (spanned {m = m} n w q) = absurd (none y i m t n)
 
-  -- Under a non-terminal: the span to m is chosen, by the sum with what leads from its end, and then by the walk
-  pub leads-span : {y i m j c : ℕ} {ys ms : List ℕ} {most : ℕ} (leader : ℕ → List ℕ) (sum : ℕ → ℕ) → (T (terminal y) → ⊥) → Level G line most σ ys j leader sum
-      → σ y i m .cost ≢ 0 → Leads G line σ ys m j ms c → σ y i m .cost + c ≤ most
-      → ((n : ℕ) → σ y i n .cost ≢ 0 → Leads G line σ ys n j (leader n) (sum n)
-      → (σ y i m .cost + c < σ y i n .cost + sum n) ⊎ ((σ y i m .cost + c ≡ σ y i n .cost + sum n) × ((m ≡ n) ⊎ Precedes G σ y i m n)))
-      → Leads G line σ (y ∷ ys) i j (m ∷ ms) (σ y i m .cost + c)
-  leads-span {y} {i} {m} {j} {c} {ys} {ms} {most} leader sum n-t level n l fits chosen = record { total = spanned n (l .total) refl; first = λ ns d w. go w }
+  -- under a non-terminal: the span to m is chosen
+  pub leads-span : {y i m j c : ℕ} {ys ms : List ℕ} {most : ℕ} (leader : ℕ → List ℕ) (sum : ℕ → ℕ) → (T (terminal y) → ⊥)
+      → Level G line most σ ys j leader sum → σ y i m .cost ≢ 0 → Leads G line σ ys m j ms c → σ y i m .cost + c ≤ most
+      → Chosen G line σ y ys i j leader sum m c → Leads G line σ (y ∷ ys) i j (m ∷ ms) (σ y i m .cost + c)
+  leads-span {y} {i} {m} {j} {c} {ys} {ms} {most} leader sum no-token level n l fits chosen =
+      record { total = spanned n (l .total) refl; first = λ ns d w. go w }
     where
-      -- through the same end
-      same-end : {ns : List ℕ} → (ms ≡ ns) ⊎ Ahead G line σ ys m j ms ns → (m ∷ ms ≡ m ∷ ns) ⊎ Ahead G line σ (y ∷ ys) i j (m ∷ ms) (m ∷ ns)
+      -- through the same end: what follows decides
+      same-end : {ns : List ℕ} → Foremost G line σ ys m j ms ns → Foremost G line σ (y ∷ ys) i j (m ∷ ms) (m ∷ ns)
       same-end (inl q) = inl (ap (λ u. m ∷ u) q)
       same-end {ns} (inr a) = inr ahead
         where
           ahead : Ahead G line σ (y ∷ ys) i j (m ∷ ms) (m ∷ ns)
           ahead qs ps u v =
-              let p = parted n-t u in
-              let q = parted n-t v in
-              subst (λ z. Before z ps) (p .joined) (subst (λ z. Before (p .front ++ p .back) z) (ap (λ z. z ++ q .back) (said-once none (p .fronts) (q .fronts)) ∙ q .joined)
-              (before-after (p .front) (a (p .back) (q .back) (p .backs) (q .backs))))
+              let p = parted no-token u in
+              let q = parted no-token v in
+              let same = ap (λ z. z ++ q .back) (said-once none (p .fronts) (q .fronts)) ∙ q .joined in
+              let before = before-after (p .front) (a (p .back) (q .back) (p .backs) (q .backs)) in
+              subst (λ z. Before z ps) (p .joined) (subst (λ z. Before (p .front ++ p .back) z) same before)
 
-      -- through another end
+      -- through another end: the spans decide
       other-end : {k : ℕ} (ns : List ℕ) → Precedes G σ y i m k → Ahead G line σ (y ∷ ys) i j (m ∷ ms) (k ∷ ns)
       other-end ns w qs ps u v =
-          let p = parted n-t u in
-          let q = parted n-t v in
-          subst (λ z. Before z ps) (p .joined) (subst (λ z. Before (p .front ++ p .back) z) (q .joined) (before-longer (precedes-before none w (p .fronts) (q .fronts)) (p .back) (q .back)))
+          let p = parted no-token u in
+          let q = parted no-token v in
+          let before = before-longer (precedes-before none w (p .fronts) (q .fronts)) (p .back) (q .back) in
+          subst (λ z. Before z ps) (p .joined) (subst (λ z. Before (p .front ++ p .back) z) (q .joined) before)
 
       go : {d : ℕ} {ns : List ℕ} → Total line σ (y ∷ ys) i ns j d
-          → (σ y i m .cost + c < d) ⊎ ((σ y i m .cost + c ≡ d) × ((m ∷ ms ≡ ns) ⊎ Ahead G line σ (y ∷ ys) i j (m ∷ ms) ns))
-      go (passed t h e w) = absurd (n-t t)
+          → (σ y i m .cost + c < d) ⊎ ((σ y i m .cost + c ≡ d) × Foremost G line σ (y ∷ ys) i j (m ∷ ms) ns)
+      go (passed t h e w) = absurd (no-token t)
       go {d} (spanned {m = k} {c = e} {ms = ns} z w q) = elim (ℕ-discrete k m) [
-        | yes a ↦ ⊎-elim
-            (λ b. let u = ap (λ v. σ y i v .cost) a in inl (omega arith))
-            (λ (b, f). let u = ap (λ v. σ y i v .cost) a in inr (omega arith, subst (λ v. (m ∷ ms ≡ v ∷ ns) ⊎ Ahead G line σ (y ∷ ys) i j (m ∷ ms) (v ∷ ns)) (sym a) (same-end f)))
-            (l .first ns e (subst (λ v. Total line σ ys v ns j e) a w))
+        | yes a ↦
+            let u = ap (λ v. σ y i v .cost) a in
+            let v = subst (λ v. Total line σ ys v ns j e) a w in
+            ⊎-elim (λ b. inl (omega arith)) (λ (b, f). inr (omega arith, near a f)) (l .first ns e v)
         | no a ↦ far a
       ]
         where
-          far : k ≢ m → (σ y i m .cost + c < d) ⊎ ((σ y i m .cost + c ≡ d) × ((m ∷ ms ≡ k ∷ ns) ⊎ Ahead G line σ (y ∷ ys) i j (m ∷ ms) (k ∷ ns)))
+          near : k ≡ m → Foremost G line σ ys m j ms ns → Foremost G line σ (y ∷ ys) i j (m ∷ ms) (k ∷ ns)
+          near a f = subst (λ v. Foremost G line σ (y ∷ ys) i j (m ∷ ms) (v ∷ ns)) (sym a) (same-end f)
+
+          -- against what leads from there, where that is within the buffer
+          far : k ≢ m → (σ y i m .cost + c < d) ⊎ ((σ y i m .cost + c ≡ d) × Foremost G line σ (y ∷ ys) i j (m ∷ ms) (k ∷ ns))
           far a = ⊎-elim
               (λ h.
               let o = level k ns e w (omega arith) in
-              let g = o .first ns e w in
-              ⊎-elim (λ u. ⊎-elim (λ v. inl (omega arith)) (λ (v, f). inl (omega arith)) g)
-              (λ (u, f). ⊎-elim (λ v. absurd (a (sym v))) (λ p. ⊎-elim (λ v. inl (omega arith)) (λ (v, f). inr (omega arith, inr (other-end ns p))) g) f)
+              let low : sum k ≤ e = ⊎-elim (λ v. omega arith) (λ (v, f). omega arith) (o .first ns e w) in
+              ⊎-elim
+              (λ u. inl (omega arith))
+              (λ (u, f). ⊎-elim (λ v. absurd (a (sym v))) (λ p. less-or-same low u p) f)
               (chosen k z o))
               (λ h. inl (omega arith)) (low-or-high d most)
+            where
+              less-or-same : sum k ≤ e → σ y i m .cost + c ≡ σ y i k .cost + sum k → Precedes G σ y i m k
+                  → (σ y i m .cost + c < d) ⊎ ((σ y i m .cost + c ≡ d) × Foremost G line σ (y ∷ ys) i j (m ∷ ms) (k ∷ ns))
+              less-or-same low u p = elim (ℕ-discrete (sum k) e) [
+                | yes v ↦ inr (omega arith, inr (other-end ns p))
+                | no v ↦ inl (omega arith)
+              ]
 
   -- ---- the rules of a symbol
 
@@ -111,15 +128,15 @@ module _ {G : Grammar} {line : List ℕ} {σ : Store} (none : NoTokens σ) where
   pub comes-offered : {most x i j c : ℕ} (k : Kept) → k .cost ≡ suc c → Offer G line most σ x i j (k .rule) (k .ends) c
       → Leads G line σ (G .right (k .rule)) i j (k .ends) c
       → ((r d : ℕ) (ns : List ℕ) → Offer G line most σ x i j r ns d → (c < d) ⊎ ((c ≡ d) × (k .rule ≤ r))) → Comes G line most σ x i j k
-  comes-offered {most} {x} {i} {j} {c} k e o l chosen = offered e o (λ r d ns p. ⊎-elim (λ h. inl h) (λ (h, m). inr (h, equal r d ns p h m)) (chosen r d ns p))
+  comes-offered {most} {x} {i} {j} {c} k e o l chosen =
+      offered e o (λ r d ns p. ⊎-elim (λ h. inl h) (λ (h, m). inr (h, equal r d ns p h m)) (chosen r d ns p))
     where
       equal : (r d : ℕ) (ns : List ℕ) → Offer G line most σ x i j r ns d → c ≡ d → k .rule ≤ r
-          → (k .rule < r) ⊎ ((k .rule ≡ r) × ((k .ends ≡ ns) ⊎ Ahead G line σ (G .right r) i j (k .ends) ns))
+          → (k .rule < r) ⊎ ((k .rule ≡ r) × Foremost G line σ (G .right r) i j (k .ends) ns)
       equal r d ns p h m = elim (ℕ-discrete (k .rule) r) [
-        | yes q ↦ inr (
-          q,
-          ⊎-elim (λ a. absurd (omega arith)) (λ (a, b). subst (λ z. (k .ends ≡ ns) ⊎ Ahead G line σ (G .right z) i j (k .ends) ns) q b)
-              (l .first ns d (subst (λ z. Total line σ (G .right z) i ns j d) (sym q) (p .total))),
-        )
+        | yes q ↦
+            let w = subst (λ z. Total line σ (G .right z) i ns j d) (sym q) (p .total) in
+            let foremost = ⊎-elim (λ a. absurd (omega arith)) (λ (a, b). b) (l .first ns d w) in
+            inr (q, subst (λ z. Foremost G line σ (G .right z) i j (k .ends) ns) q foremost)
         | no q ↦ inl (omega arith)
       ]

@@ -2,7 +2,7 @@
 -- Assumes nothing.
 use mathlib.Core.Path.{_≡_, refl, sym, _∙_, ap, subst}
 use mathlib.Core.Logic.{_↔_, _⊎_, inl, inr, ⊎-elim}
-use mathlib.Core.Bool.{Bool, true, false, true≢false, false≢true}
+use mathlib.Core.Bool.{Bool, true, false}
 use mathlib.Core.List.{List, [], _∷_, _++_}
 use Prim.Native.Nat.{ℕ, zero, suc, _+_, _≤_, _<_}
 use native.Mathlib.Decide.{ℕ-discrete}
@@ -14,11 +14,11 @@ use Rattle.laws.proofs.Choice.{when-cases}
 use Rattle.laws.proofs.Tests.{and-both, eqb-iff, ltb-iff}
 use Rattle.symbols.specs.Symbol.{terminal, nonterminal}
 use Rattle.theory.specs.Derivation.{Grammar}
-use Rattle.leftmost.specs.Leftmost.{Tokens, Before, First}
+use Rattle.leftmost.specs.Leftmost.{Before}
 use Rattle.leftmost.specs.Leftmost.Before.{lower, later}
-use Rattle.leftmost.specs.Within.{Spells, Best}
+use Rattle.leftmost.specs.Within.{Spells}
 use Rattle.leftmost.specs.Within.Spells.{stop, token, apply}
-use Rattle.leftmost.specs.Model.{Found, or-else, put, lowest, walk, listed, fewestFrom, derivation}
+use Rattle.leftmost.specs.Model.{Found, or-else, put, lowest, byRule, walk, listed}
 use Rattle.leftmost.specs.Model.Found.{nothing, some}
 use Rattle.leftmost.proofs.Parts.{not-both, join, split}
 use Rattle.leftmost.proofs.Walks.{Lefts, Any}
@@ -40,7 +40,8 @@ first-as : {Q P : List ℕ → Type 0} → ((qs : List ℕ) → Q qs ↔ P qs) �
 first-as h (none f) = none (λ qs p. f qs (h qs .1 p))
 first-as h (one {rs = rs} q f) = one (h rs .0 q) (λ qs p. f qs (h qs .1 p))
 
-first-or : {Q P : List ℕ → Type 0} → ((q p : List ℕ) → Q q → P p → Before q p) → {d e : Found} → FirstOf Q d → FirstOf P e → FirstOf (λ l. Q l ⊎ P l) (or-else d e)
+first-or : {Q P : List ℕ → Type 0} → ((q p : List ℕ) → Q q → P p → Before q p) → {d e : Found} → FirstOf Q d → FirstOf P e
+    → FirstOf (λ l. Q l ⊎ P l) (or-else d e)
 unfolding or-else
 first-or h (none f) (none g) = none (λ qs q. ⊎-elim (f qs) (g qs) q)
 first-or h (none f) (one p g) = one (inr p) (λ qs q. ⊎-elim (λ a. absurd (f qs a)) (g qs) q)
@@ -52,7 +53,8 @@ first-put r (none f) = none (λ l (qs, e, q). f qs q)
 first-put r (one {rs = rs} q f) = one (rs, refl, q)
     (λ l (qs, e, p). ⊎-elim (λ a. inl (ap (λ z. r ∷ z) a ∙ e)) (λ b. inr (subst (λ z. Before (r ∷ rs) z) e (later b))) (f qs p))
 
-first-when : {Q : List ℕ → Type 0} (b : Bool) {d : Found} → (T b → FirstOf Q d) → ((qs : List ℕ) → Q qs → T b) → FirstOf Q (when b d nothing)
+first-when : {Q : List ℕ → Type 0} (b : Bool) {d : Found} → (T b → FirstOf Q d) → ((qs : List ℕ) → Q qs → T b)
+    → FirstOf Q (when b d nothing)
 first-when {Q} b {d} f g = when-cases (FirstOf Q) b (λ e. f (of-true e)) (λ e. none (λ qs q. of-false e (g qs q)))
 
 -- ---- the lowest number whose list is there
@@ -101,7 +103,8 @@ module _ {G : Grammar} (lefts : Lefts G) (places : ℕ) (below : (r : ℕ) → T
   module _ (last : Bool) (next : List ℕ → ℕ → ℕ → Found) (c : ℕ) (z : T last ↔ (c ≡ 0))
       (after : (ys : List ℕ) (i j : ℕ) → FirstOf (λ qs. Spells G line Any ys i j qs × (suc (length qs) ≡ c)) (next ys i j)) where
     by-rule : (x : ℕ) (xs : List ℕ) (i j r : ℕ)
-        → FirstOf (ByRule G line c x xs i j r) (when (G .current r and eqb (G .left r) x) (put r (next (G .right r ++ xs) i j)) nothing)
+        → FirstOf (ByRule G line c x xs i j r) (byRule G next x xs i j r)
+    unfolding byRule
     by-rule x xs i j r = first-when (G .current r and eqb (G .left r) x)
         (λ t. let (a, b) = and-both (G .current r) (eqb (G .left r) x) .0 t in
         first-as (λ qs. (
@@ -111,10 +114,10 @@ module _ {G : Grammar} (lefts : Lefts G) (places : ℕ) (below : (r : ℕ) → T
         (λ qs p. and-both (G .current r) (eqb (G .left r) x) .1 (p .current, eqb-iff _ _ .1 (p .left)))
 
     by-rules : (x : ℕ) (xs : List ℕ) (i j : ℕ) → (T (terminal x) → ⊥)
-        → FirstOf (Lists G line c (x ∷ xs) i j) (lowest places 0 (λ r. when (G .current r and eqb (G .left r) x) (put r (next (G .right r ++ xs) i j)) nothing))
+        → FirstOf (Lists G line c (x ∷ xs) i j) (lowest places 0 (byRule G next x xs i j))
     by-rules x xs i j n = first-as
         (λ qs. (λ (k, a, b, p). to p, from qs))
-        (lowest-first {Q = ByRule G line c x xs i j} (λ r. when (G .current r and eqb (G .left r) x) (put r (next (G .right r ++ xs) i j)) nothing) (by-rule x xs i j)
+        (lowest-first {Q = ByRule G line c x xs i j} (byRule G next x xs i j) (by-rule x xs i j)
         (λ k l q p h s t. subst (λ u. Before u p) (s .is) (subst (λ u. Before (k ∷ s .rest) u) (t .is) (lower h))) places 0)
       where
         applied : {r : ℕ} {qs : List ℕ} (p : ByRule G line c x xs i j r qs) → Spells G line Any (x ∷ xs) i j (r ∷ p .rest)
@@ -141,10 +144,13 @@ module _ {G : Grammar} (lefts : Lefts G) (places : ℕ) (below : (r : ℕ) → T
         (λ t. let (a, b) = and-both (ltb i (length line)) (eqb (getD line i 0) x) .0 t in
         first-as (λ qs. (λ (s, h). (token (of-true e) (ltb-iff _ _ .0 a) (eqb-iff _ _ .0 b) s, h), λ (s, h). (passed (of-true e) s .1, h)))
         (walk-first xs (suc i) j))
-        (λ qs (s, h). let (a, b) = passed (of-true e) s .0 in and-both (ltb i (length line)) (eqb (getD line i 0) x) .1 (ltb-iff _ _ .1 a, eqb-iff _ _ .1 b)))
+        (λ qs (s, h).
+        let (a, b) = passed (of-true e) s .0 in
+        and-both (ltb i (length line)) (eqb (getD line i 0) x) .1 (ltb-iff _ _ .1 a, eqb-iff _ _ .1 b)))
         (λ e. by-rules x xs i j (of-false e))
       where
-        passed : {x i j : ℕ} {xs qs : List ℕ} → T (terminal x) → Spells G line Any (x ∷ xs) i j qs → ((i < length line) × (getD line i 0 ≡ x)) × Spells G line Any xs (suc i) j qs
+        passed : {x i j : ℕ} {xs qs : List ℕ} → T (terminal x) → Spells G line Any (x ∷ xs) i j qs
+            → ((i < length line) × (getD line i 0 ≡ x)) × Spells G line Any xs (suc i) j qs
         passed t (token u h e s) = ((h, e), s)
         passed {x} t (apply r a b z d s e) = absurd (not-both x t z)
 

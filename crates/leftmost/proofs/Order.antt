@@ -1,10 +1,9 @@
 -- The order of lists of rule numbers. Assumes nothing.
-use mathlib.Core.Path.{_≡_, refl, sym, _∙_, ap, subst}
+use mathlib.Core.Path.{_≡_, sym, _∙_, ap, subst}
 use mathlib.Core.Logic.{_⊎_, inl, inr, ⊎-elim}
 use mathlib.Core.List.{List, [], _∷_, _++_}
-use Prim.Native.Nat.{ℕ, zero, suc, _+_, _≤_, _<_}
+use Prim.Native.Nat.{ℕ, zero, suc, _≤_, _<_}
 use native.Mathlib.Omega.{arith}
-use lib.ListN.{length}
 use Rattle.leftmost.specs.Leftmost.{Before}
 use Rattle.leftmost.specs.Leftmost.Before.{lower, later}
 
@@ -36,7 +35,8 @@ before-after (c ∷ p) b = later (before-after p b)
 -- front by front, back by back
 pub together : {a b c d l : List ℕ} → (a ≡ c) ⊎ Before a c → (b ≡ d) ⊎ Before b d → c ++ d ≡ l → (a ++ b ≡ l) ⊎ Before (a ++ b) l
 together {b = b} {c = c} (inl e) (inl q) p = inl (ap (λ z. z ++ b) e ∙ ap (λ z. c ++ z) q ∙ p)
-together {a} {b} {c} {d} (inl e) (inr q) p = inr (subst (λ z. Before (a ++ b) z) p (subst (λ z. Before (z ++ b) (c ++ d)) (sym e) (before-after c q)))
+together {a} {b} {c} {d} (inl e) (inr q) p =
+    inr (subst (λ z. Before (a ++ b) z) p (subst (λ z. Before (z ++ b) (c ++ d)) (sym e) (before-after c q)))
 together {a} {b} {c} {d} (inr q) r p = inr (subst (λ z. Before (a ++ b) z) p (before-longer q b d))
 
 -- ---- numbers

@@ -4,7 +4,6 @@ use mathlib.Core.List.{List, [], _∷_, _++_, append-assoc}
 use Prim.Native.Nat.{ℕ, _≤_}
 use native.Mathlib.Omega.{arith}
 use lib.Dec.{T}
-use lib.ListN.{length}
 use Rattle.symbols.specs.Symbol.{terminal, nonterminal}
 use Rattle.theory.specs.Derivation.{Grammar}
 use Rattle.theory.proofs.Symbols.{is-terminal, is-nonterminal}
@@ -62,7 +61,8 @@ module _ {G : Grammar} {line : List ℕ} {S : Spans} where
   no-rules stop = refl
 
   -- more spans allow more
-  pub more-spans : {R : Spans} → ((x i j : ℕ) → S x i j → R x i j) → {xs rs : List ℕ} {i j : ℕ} → Spells G line S xs i j rs → Spells G line R xs i j rs
+  pub more-spans : {R : Spans} → ((x i j : ℕ) → S x i j → R x i j) → {xs rs : List ℕ} {i j : ℕ} → Spells G line S xs i j rs
+      → Spells G line R xs i j rs
   more-spans h stop = stop
   more-spans h (token t l e s) = token t l e (more-spans h s)
   more-spans h (apply r c l z d s e) = apply r c l (h _ _ _ z) (more-spans h d) (more-spans h s) e

@@ -1,6 +1,6 @@
 -- Comparing from the left always decides: read from the left, the rules fix the form at each step, and with it where the list ends. So two
 -- lists of one form from one place are equal, with the same end, or differ at a place that both have. Assumes nothing.
-use mathlib.Core.Path.{_≡_, refl, sym, _∙_, ap, subst}
+use mathlib.Core.Path.{_≡_, refl, sym, ap, subst}
 use mathlib.Core.Logic.{_≢_, _⊎_, inl, inr, ⊎-elim}
 use mathlib.Core.List.{List, [], _∷_, _++_}
 use Prim.Native.Nat.{ℕ, zero, suc, _<_}
@@ -27,7 +27,8 @@ either-way (suc a) zero n = inr (omega arith)
 either-way (suc a) (suc b) n = ⊎-elim (λ h. inl (omega arith)) (λ h. inr (omega arith)) (either-way a b (λ e. n (ap suc e)))
 
 -- after the same rule: the right side decides, or the rest does
-in-turn : (r : ℕ) {ps us qs vs rs ss : List ℕ} {m n j k : ℕ} → Ordered ps us m n → (m ≡ n → Ordered qs vs j k) → ps ++ qs ≡ rs → us ++ vs ≡ ss
+in-turn : (r : ℕ) {ps us qs vs rs ss : List ℕ} {m n j k : ℕ} → Ordered ps us m n → (m ≡ n → Ordered qs vs j k) → ps ++ qs ≡ rs
+    → us ++ vs ≡ ss
     → Ordered (r ∷ rs) (r ∷ ss) j k
 in-turn r {ps} {us} {qs} {vs} {rs} {ss} {m} {n} {j} {k} o rest a b =
     subst (λ l. Ordered (r ∷ l) (r ∷ ss) j k) a (subst (λ l. Ordered (r ∷ (ps ++ qs)) (r ∷ l) j k) b (go o))
@@ -48,12 +49,14 @@ module _ {G : Grammar} {line : List ℕ} {S : Spans} (of-line : OfLine line S) w
   ordered (token t h e s) (token t′ h′ e′ s′) = ordered s s′
   ordered {xs = x ∷ xs} (token t h e s) (apply r c l z d s′ e′) = absurd (not-both x t (of-line .symbol _ _ _ z))
   ordered {xs = x ∷ xs} (apply r c l z d s e) (token t h e′ s′) = absurd (not-both x t (of-line .symbol _ _ _ z))
-  ordered {xs = x ∷ xs} {i = i} {j = j} {k = k} (apply {rs = rs} r c l z d s e) (apply {m = n} {ps = us} {qs = vs} {rs = ss} q c′ l′ z′ d′ s′ e′) = elim (ℕ-discrete r q) [
-    | yes w ↦ subst (λ y. Ordered (r ∷ rs) (y ∷ ss) j k) w
-        (in-turn r (ordered d (subst (λ y. Spells G line S (G .right y) i n us) (sym w) d′))
-        (λ f. ordered s (subst (λ y. Spells G line S xs y k vs) (sym f) s′)) e e′)
-    | no n ↦ ⊎-elim (λ a. first (lower a)) (λ b. second (lower b)) (either-way r q n)
-  ]
+  ordered {xs = x ∷ xs} {i = i} {j = j} {k = k} (apply {rs = rs} r c l z d s e)
+      (apply {m = n} {ps = us} {qs = vs} {rs = ss} q a b y f t p) =
+      elim (ℕ-discrete r q) [
+        | yes w ↦ subst (λ y. Ordered (r ∷ rs) (y ∷ ss) j k) w
+            (in-turn r (ordered d (subst (λ y. Spells G line S (G .right y) i n us) (sym w) f))
+            (λ m. ordered s (subst (λ y. Spells G line S xs y k vs) (sym m) t)) e p)
+        | no n ↦ ⊎-elim (λ a. first (lower a)) (λ b. second (lower b)) (either-way r q n)
+      ]
 
   -- a list that goes on where another has ended is that list, and makes the same tokens
   pub prefix-free : {xs rs : List ℕ} {i j k : ℕ} (more : List ℕ) → Spells G line S xs i j rs → Spells G line S xs i k (rs ++ more)

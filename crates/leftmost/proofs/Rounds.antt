@@ -1,8 +1,8 @@
 -- The rounds of a cell, the cells before it being right: after n rounds every span of the cell is right up to n applications. So a round
 -- that changes nothing leaves all right, and so do more rounds than the buffer has places. A lone span is right after one.
 -- Assumes nothing.
-use mathlib.Core.Path.{_≡_, refl, sym, _∙_, ap, subst}
-use mathlib.Core.Logic.{_≢_, _⊎_, inl, inr, ⊎-elim}
+use mathlib.Core.Path.{_≡_, refl, sym, subst}
+use mathlib.Core.Logic.{_⊎_, inl, inr, ⊎-elim}
 use mathlib.Core.List.{List, [], _∷_, List·Memᴰ as In, List·Memᴰ·head, List·Memᴰ·tail, List·Memᴰ·cases-cons, List·Memᴰ·not-nil}
 use Prim.Native.Nat.{ℕ, zero, suc, _≤_, _<_}
 use native.Mathlib.Decide.{ℕ-discrete}
@@ -18,7 +18,8 @@ use Rattle.leftmost.specs.Cells.Pass.{through, one}
 use Rattle.leftmost.specs.Cells.Rounds.{none, more}
 use Rattle.leftmost.specs.Cells.Settled.{alone, stable, enough}
 use Rattle.leftmost.proofs.Keeping.{sound-kept}
-use Rattle.leftmost.proofs.Inner.{Is, Inner, told-is}
+use Rattle.leftmost.proofs.Inner.{Inner, told-is}
+use Rattle.leftmost.proofs.Offers.{Known}
 use Rattle.leftmost.proofs.Exact.{comes-right}
 
 -- the spans of the cell (i, j) are right up to n
@@ -44,7 +45,8 @@ module _ {G : Grammar} {line : List ℕ} {S : Spans} {most x i j : ℕ} {k : Kep
   right-below h (told t) = told t
   right-below h (void f) = void (λ qs s. let l = f qs s in omega arith)
 
-  pub is-told : {u : ℕ} {q : List ℕ} → Right G line S most u x i j k → Spells G line S (x ∷ []) i j q → length q < u → Told G line S most x i j k
+  pub is-told : {u : ℕ} {q : List ℕ} → Right G line S most u x i j k → Spells G line S (x ∷ []) i j q → length q < u
+      → Told G line S most x i j k
   is-told (told t) s h = t
   is-told {q = q} (void f) s h = absurd (let l = f q s in omega arith)
 
@@ -75,7 +77,9 @@ module _ {G : Grammar} {line : List ℕ} {S : Spans} (of-line : OfLine line S) {
 
   module _ {n : ℕ} {σ : Store} (u : Until G line S most (suc i) j σ) (near : Near G line S most i j n σ) where
     near-inner : n ≤ suc most → Inner G line S most σ i j n
-    near-inner l y s m q a b z d h = ⊎-elim (λ (e, f). is-told (here e f) d h) (λ e. is-told (u .right y s m z e) d (omega arith)) (here-or-before a b)
+    near-inner l y s m q a b z d h = ⊎-elim
+        (λ (e, f). is-told (here e f) d h)
+        (λ e. is-told (u .right y s m z e) d (omega arith)) (here-or-before a b)
       where
         here : s ≡ i → m ≡ j → Right G line S most n y s m (σ y s m)
         here e f =
@@ -96,7 +100,9 @@ module _ {G : Grammar} {line : List ℕ} {S : Spans} (of-line : OfLine line S) {
       → Right G line S most n y i j (σ y i j) ⊎ In y (x ∷ xs) → Right G line S most n y i j (τ y i j) ⊎ In y xs
   step-right {n} {σ} {τ} {x} {y} {xs} {k} sets r w = ⊎-elim
       (λ (a, b). inl (same a))
-      (λ e. ⊎-elim (λ v. inl (subst (Right G line S most n y i j) (sym e) v)) (λ m. ⊎-elim (λ a. inl (same a)) (λ v. inr v) (List·Memᴰ·cases-cons m)) w)
+      (λ e. ⊎-elim
+      (λ v. inl (subst (Right G line S most n y i j) (sym e) v))
+      (λ m. ⊎-elim (λ a. inl (same a)) (λ v. inr v) (List·Memᴰ·cases-cons m)) w)
       (sets .each y i j)
     where
       same : y ≡ x → Right G line S most n y i j (τ y i j)
@@ -116,28 +122,31 @@ module _ {G : Grammar} {line : List ℕ} {S : Spans} (of-line : OfLine line S) {
           (step-right {xs = []} sets (right-below (omega arith) r) (inl (near v q)))
 
   module _ {xs : List ℕ} (cell : Cell S i j xs) where
-    near-more : {n : ℕ} {σ υ : Store} → n ≤ most → Pass G line most i j σ xs υ → Until G line S most (suc i) j σ → Near G line S most i j n σ → Near G line S most i j (suc n) υ
+    near-more : {n : ℕ} {σ υ : Store} → n ≤ most → Pass G line most i j σ xs υ → Until G line S most (suc i) j σ
+        → Near G line S most i j n σ → Near G line S most i j (suc n) υ
     near-more l p u near y z = pass-right l p (λ x m. cell x .0 m) u near y (inr (cell y .1 z))
 
-    near-rounds : {t : ℕ} {σ υ : Store} → t ≤ suc most → Rounds G line most i j xs σ t υ → Until G line S most (suc i) j σ → Near G line S most i j t υ
+    near-rounds : {t : ℕ} {σ υ : Store} → t ≤ suc most → Rounds G line most i j xs σ t υ → Until G line S most (suc i) j σ
+        → Near G line S most i j t υ
     near-rounds l none u = λ y z. void (λ qs s. omega arith)
     near-rounds l (more r p) u = near-more (omega arith) p (until-rounds r (λ x m. cell x .0 m) u) (near-rounds (omega arith) r u)
 
     -- a round that changes nothing could go on for ever
-    near-stable : {υ : Store} → Pass G line most i j υ xs υ → Until G line S most (suc i) j υ → (n : ℕ) → n ≤ suc most → Near G line S most i j n υ
+    near-stable : {υ : Store} → Pass G line most i j υ xs υ → Until G line S most (suc i) j υ → (n : ℕ) → n ≤ suc most
+        → Near G line S most i j n υ
     near-stable p u zero l = λ y z. void (λ qs s. omega arith)
     near-stable p u (suc n) l = near-more (omega arith) p u (near-stable p u n (omega arith))
 
   -- a lone span's parts are itself and of cells before
-  near-alone : {σ υ : Store} {x : ℕ} → Cell S i j (x ∷ []) → Pass G line most i j σ (x ∷ []) υ → Until G line S most (suc i) j σ → Near G line S most i j (suc most) υ
+  near-alone : {σ υ : Store} {x : ℕ} → Cell S i j (x ∷ []) → Pass G line most i j σ (x ∷ []) υ → Until G line S most (suc i) j σ
+      → Near G line S most i j (suc most) υ
   near-alone {σ} {x = x} cell (one k c sets through) u y z = ⊎-elim (λ v. v) (λ m. absurd (List·Memᴰ·not-nil m))
       (step-right {xs = []} sets right (inr (cell y .1 z)))
     where
       it : {y : ℕ} → S y i j → y ≡ x
       it {y} z = ⊎-elim (λ e. e) (λ m. absurd (List·Memᴰ·not-nil m)) (List·Memᴰ·cases-cons (cell y .1 z))
 
-      parts : (y s m : ℕ) (q : List ℕ) → i ≤ s → m ≤ j → S y s m → Spells G line S (y ∷ []) s m q → length q < suc most
-          → Is G line S σ y s m ⊎ ((y ≡ x) × ((s ≡ i) × (m ≡ j)))
+      parts : Known G line S σ x i j (suc most)
       parts y s m q a b z d h = ⊎-elim
           (λ (e, f). inr (it (subst (λ v. S y v j) e (subst (S y s) f z)), (e, f)))
           (λ e.
@@ -149,7 +158,7 @@ module _ {G : Grammar} {line : List ℕ} {S : Spans} (of-line : OfLine line S) {
       right : Right G line S most (suc most) x i j k
       right = comes-right of-line (u .sound) (cell x .0 (List·Memᴰ·head refl)) (suc most) parts c (suc most) (omega arith) (omega arith)
 
-  -- ---- a cell more is right
+  -- ---- settled, a cell more is right
 
   finished : {υ : Store} → Until G line S most (suc i) j υ → Near G line S most i j (suc most) υ → Until G line S most i j υ
   finished {υ} u near = record {
@@ -158,17 +167,18 @@ module _ {G : Grammar} {line : List ℕ} {S : Spans} (of-line : OfLine line S) {
       | yes e ↦ elim (ℕ-discrete s i) [
         | yes f ↦
             let w = near x (subst (λ v. S x v j) f (subst (S x s) e z)) in
-            subst (λ v. Right G line S most (suc most) x v m (υ x v m)) (sym f) (subst (λ v. Right G line S most (suc most) x i v (υ x i v)) (sym e) w)
+            subst (λ v. Right G line S most (suc most) x v m (υ x v m)) (sym f)
+            (subst (λ v. Right G line S most (suc most) x i v (υ x i v)) (sym e) w)
         | no f ↦ u .right x s m z (⊎-elim (λ h. inl h) (λ (g, h). inr (g, omega arith)) d)
       ]
       | no e ↦ u .right x s m z (⊎-elim (λ h. inl h) (λ (g, h). absurd (e g)) d)
     ];
   }
 
-  pub settled-right : {xs : List ℕ} → Cell S i j xs → {σ υ : Store} → Until G line S most (suc i) j σ → Settled G line most i j xs σ υ
+  pub next-cell : {xs : List ℕ} → Cell S i j xs → {σ υ : Store} → Until G line S most (suc i) j σ → Settled G line most i j xs σ υ
       → Until G line S most i j υ
-  settled-right cell u (alone p) = finished (until-pass p (λ x m. cell x .0 m) u) (near-alone cell p u)
-  settled-right cell u (stable r p) =
+  next-cell cell u (alone p) = finished (until-pass p (λ x m. cell x .0 m) u) (near-alone cell p u)
+  next-cell cell u (stable r p) =
       let v = until-rounds r (λ x m. cell x .0 m) u in
       finished v (near-stable cell p v (suc most) (omega arith))
-  settled-right cell u (enough r) = finished (until-rounds r (λ x m. cell x .0 m) u) (near-rounds cell (omega arith) r u)
+  next-cell cell u (enough r) = finished (until-rounds r (λ x m. cell x .0 m) u) (near-rounds cell (omega arith) r u)

@@ -4,7 +4,6 @@ use mathlib.Core.Logic.{_⊎_, inl, inr}
 use mathlib.Core.List.{List}
 use Prim.Native.Nat.{ℕ}
 use native.Mathlib.Omega.{arith}
-use lib.ListN.{length}
 use Rattle.theory.specs.Derivation.{Grammar}
 use Rattle.leftmost.specs.Leftmost.{Before, First}
 use Rattle.leftmost.specs.Within.{Spans, Best, FirstWithin}
@@ -22,12 +21,14 @@ first-unique {rs = rs} {qs = qs} a b =
     let m = b .fewest .least rs (a .fewest .leads) in
     same-either (a .first qs (b .fewest .leads) (omega arith)) (b .first rs (a .fewest .leads) (omega arith))
 
-pub best-unique : {G : Grammar} {line : List ℕ} {S : Spans} {xs rs qs : List ℕ} {i j : ℕ} → Best G line S xs i j rs → Best G line S xs i j qs → rs ≡ qs
+pub best-unique : {G : Grammar} {line : List ℕ} {S : Spans} {xs rs qs : List ℕ} {i j : ℕ} → Best G line S xs i j rs
+    → Best G line S xs i j qs → rs ≡ qs
 best-unique {rs = rs} {qs = qs} a b =
     let l = a .least qs (b .spells) in
     let m = b .least rs (a .spells) in
     same-either (a .first qs (b .spells) (omega arith)) (b .first rs (a .spells) (omega arith))
 
 -- .. and within any spans
-pub first-within-unique : {G : Grammar} {line : List ℕ} {S : Spans} {rs qs : List ℕ} → FirstWithin G line S rs → FirstWithin G line S qs → rs ≡ qs
+pub first-within-unique : {G : Grammar} {line : List ℕ} {S : Spans} {rs qs : List ℕ} → FirstWithin G line S rs → FirstWithin G line S qs
+    → rs ≡ qs
 first-within-unique a b = best-unique a b

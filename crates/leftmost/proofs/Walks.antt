@@ -1,17 +1,17 @@
 -- Leftmost derivation of forms, and by places of the line, are the same. Assumes nothing.
 use mathlib.Core.Path.{_≡_, refl, sym, _∙_, ap, subst}
-use mathlib.Core.Logic.{_↔_, _⊎_}
+use mathlib.Core.Logic.{_↔_}
 use mathlib.Core.List.{List, [], _∷_, _++_, append-assoc, append-nil}
-use Prim.Native.Nat.{ℕ, zero, suc, _+_, _≤_, _<_}
+use Prim.Native.Nat.{ℕ, suc, _≤_, _<_}
 use native.Mathlib.Omega.{arith}
 use lib.Dec.{T}
 use lib.ListN.{length, getD, take, length-append}
 use lib.Seq.{take-suc, take-length, getD-append-seam, getD-take, length-take-le}
-use Rattle.symbols.specs.Symbol.{START, terminal, nonterminal}
+use Rattle.symbols.specs.Symbol.{nonterminal}
 use Rattle.theory.specs.Derivation.{Grammar}
-use Rattle.leftmost.specs.Leftmost.{Tokens, Leftmost, Before, Fewest, First}
+use Rattle.leftmost.specs.Leftmost.{Tokens, Leftmost}
 use Rattle.leftmost.specs.Leftmost.Leftmost.{none, step}
-use Rattle.leftmost.specs.Within.{Spans, Spells, Best, FirstWithin}
+use Rattle.leftmost.specs.Within.{Spans, Spells}
 use Rattle.leftmost.specs.Within.Spells.{stop, token, apply}
 use Rattle.leftmost.proofs.Parts.{not-both, split}
 

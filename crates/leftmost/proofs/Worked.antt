@@ -1,19 +1,22 @@
 -- The definitions tried on small lines: 01's list (rules 0 to 4), a loop, empties, equal lengths settled by rule number, the empty line,
--- and buffers too short. The model is computed, and what it gives is the first of the fewest by the definitions.
--- Assumes nothing.
-use mathlib.Core.Path.{_≡_, refl}
-use mathlib.Core.Bool.{Bool, true, false}
-use mathlib.Core.List.{List, [], _∷_}
+-- and buffers too short. The model is computed, and what it gives is the first of the fewest by the definitions. Then spans that are not
+-- closed, where the first within is another. Assumes nothing.
+use mathlib.Core.Path.{_≡_, refl, sym, _∙_, ap}
+use mathlib.Core.Logic.{inl}
+use mathlib.Core.Bool.{Bool, true}
+use mathlib.Core.List.{List, [], _∷_, append-nil, map}
 use Prim.Native.Nat.{ℕ, zero, suc, _≤_, _<_}
 use native.Mathlib.Omega.{arith}
-use lib.Dec.{T, ltb}
+use lib.Dec.{T, eqb, ltb}
 use lib.ListN.{length, getD}
-use Rattle.laws.specs.Choice.{_and_, when}
+use Rattle.laws.specs.Choice.{_and_, _or_, when}
 use Rattle.laws.proofs.Tests.{and-both, ltb-iff}
 use Rattle.symbols.specs.Symbol.{START, terminal, nonterminal}
 use Rattle.theory.specs.Derivation.{Grammar}
 use Rattle.leftmost.specs.Leftmost.{Tokens, Leftmost, First}
-use Rattle.leftmost.specs.Model.{Found, derivation, fewestFrom, listed, walk, lowest, or-else, put}
+use Rattle.leftmost.specs.Within.{Spans, Spells, FirstWithin}
+use Rattle.leftmost.specs.Within.Spells.{stop, token, apply}
+use Rattle.leftmost.specs.Model.{Found, derivation, fewestFrom, listed, walk, byRule, lowest, or-else, put}
 use Rattle.leftmost.specs.Model.Found.{nothing, some}
 use Rattle.leftmost.proofs.Walks.{Lefts}
 use Rattle.leftmost.proofs.Fewest.{Placed, model-lists, model-nothing}
@@ -117,38 +120,79 @@ unfolding Says modelled
 model-says c a b (some rs) e = model-lists (lefts (c .rules) a) (placed (c .rules)) (c .line) (tokens (c .line) b) (c .most) rs .0 e
 model-says c a b nothing e = model-nothing (lefts (c .rules) a) (placed (c .rules)) (c .line) (tokens (c .line) b) (c .most) .0 e
 
-Computed : List Case → Type 0
-Computed [] = Unit {0}
-Computed (c ∷ cs) = (T (allLeft (c .rules)) × (T (allTokens (c .line)) × (modelled c ≡ c .found))) × Computed cs
+-- each case computed, and of rules and tokens as they should be
+computed : map modelled cases ≡ map (λ c. c .found) cases
+unfolding cases modelled grammarOf rule list loop empties pairs twice
+    derivation fewestFrom listed walk byRule lowest or-else put _and_ when terminal
+computed = refl
 
-computed : Computed cases
-unfolding Computed cases modelled allLeft allTokens grammarOf rule list loop empties pairs twice
-    derivation fewestFrom listed walk lowest or-else put _and_ when terminal nonterminal
-computed = (
-  (tt, (tt, refl)),
-  (
-    (tt, (tt, refl)),
-    (
-      (tt, (tt, refl)),
-      (
-        (tt, (tt, refl)),
-        (
-          (tt, (tt, refl)),
-          ((tt, (tt, refl)), ((tt, (tt, refl)), ((tt, (tt, refl)), ((tt, (tt, refl)), ((tt, (tt, refl)), tt))))),
-        ),
-      ),
-    ),
-  ),
-)
+allSane : List Case → Bool
+allSane [] = true
+allSane (c ∷ cs) = let rest = allSane cs in (allLeft (c .rules) and allTokens (c .line)) and rest
+
+sane : T (allSane cases)
+unfolding allSane cases allLeft allTokens rule list loop empties pairs twice _and_ terminal nonterminal
+sane = tt
 
 All : List Case → Type 0
 All [] = Unit {0}
 All (c ∷ cs) = Says c (c .found) × All cs
 
-all-said : (cs : List Case) → Computed cs → All cs
-unfolding Computed All
-all-said [] a = tt
-all-said (c ∷ cs) ((a, (b, e)), rest) = (model-says c a b (c .found) e, all-said cs rest)
+all-said : (cs : List Case) → map modelled cs ≡ map (λ c. c .found) cs → T (allSane cs) → All cs
+unfolding All allSane
+all-said [] e a = tt
+all-said (c ∷ cs) e a =
+    let (b, rest) = and-both (allLeft (c .rules) and allTokens (c .line)) (allSane cs) .0 a in
+    let (l, k) = and-both (allLeft (c .rules)) (allTokens (c .line)) .0 b in
+    let here : modelled c ≡ c .found = cc in
+    let there : map modelled cs ≡ map (λ c. c .found) cs = cc in
+    (model-says c l k (c .found) here, all-said cs there rest)
 
 worked : All cases
-worked = all-said cases computed
+worked = all-said cases computed sane
+
+-- ---- spans that are not closed: of `twice` over the line 1, all but those of 65
+
+Without65 : Spans
+Without65 x i j = T (eqb x 64 or eqb x 66)
+
+-- what derives by `twice` within them
+abbrev Left : List ℕ → List ℕ → Type 0
+Left xs qs = Spells (grammarOf twice) (1 ∷ []) Without65 xs 0 1 qs
+
+by-none : {qs : List ℕ} → Left (65 ∷ []) qs → ⊥
+unfolding Without65 _or_ terminal _and_
+by-none (token t h e s) = t
+by-none (apply r c l z d s e) = z
+
+by-token : {qs : List ℕ} → Left (1 ∷ []) qs → [] ≡ qs
+unfolding Without65 _or_
+by-token (token t h e stop) = refl
+by-token (apply r c l z d s e) = absurd z
+
+by-3 : {qs : List ℕ} → Left (66 ∷ []) qs → (3 ∷ []) ≡ qs
+unfolding grammarOf twice rule terminal _and_
+by-3 (token t h e s) = absurd t
+by-3 (apply zero c l z d s e) = absurd (omega arith)
+by-3 (apply (suc zero) c l z d s e) = absurd (omega arith)
+by-3 (apply (suc (suc zero)) c l z d s e) = absurd (omega arith)
+by-3 (apply {ps = ps} (suc (suc (suc zero))) c l z d stop e) = ap (λ v. 3 ∷ v) (by-token d ∙ sym (append-nil ps) ∙ e)
+by-3 (apply (suc (suc (suc (suc r)))) c l z d s e) = absurd (let h = ltb-iff (suc (suc (suc (suc r)))) 4 .0 c in omega arith)
+
+by-1-and-3 : {qs : List ℕ} → Left (64 ∷ []) qs → (1 ∷ 3 ∷ []) ≡ qs
+unfolding grammarOf twice rule terminal _and_
+by-1-and-3 (token t h e s) = absurd t
+by-1-and-3 (apply zero c l z d stop e) = absurd (by-none d)
+by-1-and-3 (apply {ps = ps} (suc zero) c l z d stop e) = ap (λ v. 1 ∷ v) (by-3 d ∙ sym (append-nil ps) ∙ e)
+by-1-and-3 (apply (suc (suc zero)) c l z d s e) = absurd (omega arith)
+by-1-and-3 (apply (suc (suc (suc zero))) c l z d s e) = absurd (omega arith)
+by-1-and-3 (apply (suc (suc (suc (suc r)))) c l z d s e) = absurd (let h = ltb-iff (suc (suc (suc (suc r)))) 4 .0 c in omega arith)
+
+-- 1 3 is the first within, where 0 2 is the first of all
+unclosed : FirstWithin (grammarOf twice) (1 ∷ []) Without65 (1 ∷ 3 ∷ [])
+unfolding grammarOf twice rule Without65 _or_ terminal _and_
+unclosed = record {
+  spells = apply 1 tt refl tt (apply 3 tt refl tt (token {i = 0} tt (omega arith) refl stop) stop refl) stop refl;
+  least = λ qs s. let e = ap length (by-1-and-3 s) in omega arith;
+  first = λ qs s e. inl (by-1-and-3 s);
+}

@@ -51,7 +51,8 @@ pub data Rounds (G : Grammar) (line : List ℕ) (most i j : ℕ) (xs : List ℕ)
 -- one round for a lone span; else up to one that changes nothing, or more rounds than the buffer has places
 pub data Settled (G : Grammar) (line : List ℕ) (most i j : ℕ) : List ℕ → Store → Store → Type 0 where
   alone : {σ υ : Store} {x : ℕ} → Pass G line most i j σ (x ∷ []) υ → Settled G line most i j (x ∷ []) σ υ
-  stable : {σ υ : Store} {xs : List ℕ} {t : ℕ} → Rounds G line most i j xs σ t υ → Pass G line most i j υ xs υ → Settled G line most i j xs σ υ
+  stable : {σ υ : Store} {xs : List ℕ} {t : ℕ} → Rounds G line most i j xs σ t υ → Pass G line most i j υ xs υ
+      → Settled G line most i j xs σ υ
   enough : {σ υ : Store} {xs : List ℕ} → Rounds G line most i j xs σ (suc most) υ → Settled G line most i j xs σ υ
 
 -- ---- the cells so far

@@ -15,6 +15,11 @@ unfoldable pub place : (ℕ → ℕ) → List ℕ → ℕ → List ℕ → List 
 place cost b o [] = b
 place cost b o (e ∷ es) = place cost (set b o e) (o + cost e) es
 
+-- the place after them
+unfoldable pub placeAfter : (ℕ → ℕ) → ℕ → List ℕ → ℕ
+placeAfter cost o [] = o
+placeAfter cost o (e ∷ es) = placeAfter cost (o + cost e) es
+
 -- of each span's number its cost, its rule, and the numbers of its children
 module _ (cost rule : ℕ → ℕ) (kids : ℕ → List ℕ) where
   -- the number at place o becomes its rule

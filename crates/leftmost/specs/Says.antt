@@ -1,8 +1,8 @@
 -- The list that a span says by what is kept, and the walk that tells which of two spans says the earlier one. Assumes nothing.
 use mathlib.Core.Path.{_≡_}
-use mathlib.Core.Logic.{_≢_}
+use mathlib.Core.Logic.{_≢_, _⊎_}
 use mathlib.Core.List.{List, [], _∷_, _++_}
-use Prim.Native.Nat.{ℕ, suc, _<_}
+use Prim.Native.Nat.{ℕ, zero, suc, _<_}
 use lib.Dec.{T}
 use lib.ListN.{length, getD}
 use Rattle.symbols.specs.Symbol.{terminal}
@@ -27,10 +27,19 @@ mutual
 abbrev pub Ahead : Grammar → List ℕ → Store → List ℕ → ℕ → ℕ → List ℕ → List ℕ → Type 0
 Ahead G line σ ys i j ms ns = (qs ps : List ℕ) → SaysAll G line σ ys i ms j qs → SaysAll G line σ ys i ns j ps → Before qs ps
 
+-- the same ends, or ends with which the earlier list is said
+abbrev pub Foremost : Grammar → List ℕ → Store → List ℕ → ℕ → ℕ → List ℕ → List ℕ → Type 0
+Foremost G line σ ys i j ms ns = (ms ≡ ns) ⊎ Ahead G line σ ys i j ms ns
+
 -- the first symbol that ends elsewhere: y, from s, ends at a and at b
 pub data Other : List ℕ → ℕ → List ℕ → List ℕ → ℕ → ℕ → ℕ → ℕ → Type 0 where
   here : {y i m n : ℕ} {ys ms ns : List ℕ} → m ≢ n → Other (y ∷ ys) i (m ∷ ms) (n ∷ ns) y i m n
   further : {x y i m s a b : ℕ} {ys ms ns : List ℕ} → Other ys m ms ns y s a b → Other (x ∷ ys) i (m ∷ ms) (m ∷ ns) y s a b
+
+-- where right place p begins, if the places end at ms
+abbrev pub startOf : ℕ → List ℕ → ℕ → ℕ
+startOf i ms zero = i
+startOf i ms (suc p) = getD ms p 0
 
 -- The walk of `before`: of the spans of x from i to a and to b, the first says the earlier list. The rules decide; where they are the
 -- same, the first right place that ends elsewhere does

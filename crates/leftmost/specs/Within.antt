@@ -1,6 +1,6 @@
--- Leftmost derivation by places of a fixed line, within some spans. A span is a symbol, where it begins and where it ends. "each rule
--- application's span is among them" is what a graph of links shows of a derivation; where every derivation of the line is within,
--- the first within is `First` (proofs/Closed.antt). Assumes nothing.
+-- Leftmost derivation by places of a fixed line, within some spans: a span is a symbol, where it begins and where it ends, and each rule
+-- is applied to a symbol whose span is among them. On tables that no call made, a graph of links need not show every derivation; there
+-- the list is the first within what it shows. Where every derivation of the line is within, the first within is `First`. Assumes nothing.
 use mathlib.Core.Path.{_≡_}
 use mathlib.Core.Logic.{_⊎_}
 use mathlib.Core.List.{List, [], _∷_, _++_}
@@ -15,7 +15,7 @@ use Rattle.leftmost.specs.Leftmost.{Leftmost, Before}
 abbrev pub Spans : Type 1
 Spans = ℕ → ℕ → ℕ → Type 0
 
--- the symbols xs make the tokens from place i up to place j by the rules rs, in the order of a leftmost derivation: a token is passed; to
+-- The symbols xs make the tokens from place i up to place j by the rules rs, in the order of a leftmost derivation: a token is passed; to
 -- a symbol from i to m whose span is in S a current rule is applied, then the rules of its right side follow, then those of the rest
 pub data Spells (G : Grammar) (line : List ℕ) (S : Spans) : List ℕ → ℕ → ℕ → List ℕ → Type 0 where
   stop : {i : ℕ} → Spells G line S [] i i []
@@ -30,7 +30,7 @@ pub record Best (G : Grammar) (line : List ℕ) (S : Spans) (xs : List ℕ) (i j
   pub least : (qs : List ℕ) → Spells G line S xs i j qs → length rs ≤ length qs
   pub first : (qs : List ℕ) → Spells G line S xs i j qs → length qs ≡ length rs → (rs ≡ qs) ⊎ Before rs qs
 
--- "the first among derivations that the graph of links shows": of START over the whole line
+-- of START over the whole line
 abbrev pub FirstWithin : Grammar → List ℕ → Spans → List ℕ → Type 0
 FirstWithin G line S rs = Best G line S (START ∷ []) 0 (length line) rs
 
