@@ -2,12 +2,12 @@
 -- that the lent numbers m hold, R the rules that the accepted additions and withdrawals have left. Assumes nothing.
 use mathlib.Core.Bool.{Bool, false}
 use mathlib.Core.Path.{_≡_}
-use mathlib.Core.Logic.{_↔_}
+use mathlib.Core.Logic.{_↔_, _⊎_}
 use mathlib.Core.List.{List, [], List·Memᴰ as In}
 use Prim.Native.Nat.{ℕ, _+_, _≤_, _<_}
 use lib.ListN.{length}
 use Rattle.symbols.specs.Symbol.{ruleAnswer}
-use Rattle.symbols.specs.Answer.{DONE, BAD-POOL, THERE, NOT-THERE, NO-RULES, NO-SETS, numberOf}
+use Rattle.symbols.specs.Answer.{BAD-TABLE, DONE, BAD-POOL, THERE, NOT-THERE, NO-RULES, NO-SETS, numberOf}
 use Rattle.theory.specs.Items.{Expanded, Generated}
 use Rattle.theory.specs.Table.{EXPANDED, Table, freeSet, setAt, grammar, automaton, Reach}
 use Rattle.theory.specs.Parse.{Outcome, outcome}
@@ -32,7 +32,13 @@ use Rattle.links.specs.Records.{numbersFor}
 use Rattle.positions.specs.declared.Verdict.{Verdict}
 use Rattle.recogniser.specs.Parse.{Parses}
 use Rattle.recogniser.proofs.OneOutcome as recogniser
+use Rattle.script.specs.Command.{Means}
+use Rattle.script.specs.Command.Meaning.{parse}
+use Rattle.replies.specs.Printed.{answerLine}
+use Rattle.desk.specs.Obeys.{State}
+use Rattle.desk.specs.Script.{Script, LineOf, blank}
 use Rattle.demands.specs.Run.{Called, Run}
+use Rattle.demands.specs.Scripts.{AtDesk, PrintsVerdict}
 use Rattle.demands.specs.Numbers.{SameNumbers}
 use Rattle.demands.proofs.Made.{run-holds, of-parse, of-verdict, decides, of-change}
 use Rattle.demands.proofs.Refused as refused
@@ -40,6 +46,7 @@ use Rattle.demands.proofs.Checks as checks
 use Rattle.demands.proofs.FormKept as kept
 use Rattle.demands.proofs.Room as room
 use Rattle.demands.proofs.Spared as spared
+use Rattle.demands.proofs.Scripts as scripts
 
 -- ---- Demand 1: every call ends with an answer on any numbers and arguments (no public call has a `requires`), each refusal exactly
 -- when 01 says and with what 01 says (`Promised`); no second answer and no second list of numbers fits
@@ -167,3 +174,12 @@ module _ {m : Mem} {R : List Rule} (r : Run m R) where
     pub delete-numbers : Promised (λ t. calls.delete t x w) m n DONE k → (s : ℕ) → s < setsIn (m .rules)
         → setAt (view n .sets) s ≡ setAt (view m .sets) s → SameNumbers m n s
     delete-numbers = spared.delete-numbers r x w
+
+-- ---- From the desk to the demands: what the program holds after any script is what a sequence of calls made (`Run`), once there was a
+-- good N; so demand 2 speaks of every P line that a script prints, and demand 3 of the table after every line
+pub script-run : {e : State} {script printed : List ℕ} → Script blank script e printed → AtDesk e
+script-run = scripts.script-run
+
+pub script-verdict : {d e : State} {script line text w : List ℕ} → LineOf blank script d line e text → Means line (parse w)
+    → (text ≡ answerLine BAD-TABLE) ⊎ ((R : List Rule) × Run (d .table) R × PrintsVerdict R w text)
+script-verdict = scripts.script-verdict

@@ -39,7 +39,7 @@ made {s} {r} {z} {d} {e} a p = go (here s r z) refl a
   where
     begins : NewPromised (d .table) (e .table) s r (p .answer) → AtDesk d → AtDesk e
     begins q (no-table none) = ⊎-elim (λ (done, _). run (begun s r (subst (NewPromised (d .table) (e .table) s r) done q)))
-        (λ (_, same). kept same (no-table none)) (new-holds q)
+        (λ (_, same). kept {d = d} {e = e} same (no-table none)) (new-holds q)
     begins q (run h) = run (after h (new q refl) refl)
 
     go : (fits : Bool) → here s r z ≡ fits → AtDesk d → AtDesk e
@@ -48,7 +48,7 @@ made {s} {r} {z} {d} {e} a p = go (here s r z) refl a
 
 -- without a table every call but N leaves all as it was
 none-made : {d e : State} {text : List ℕ} {m : Meaning} → setsIn (d .table .rules) ≡ 0 → OnTable m → Obeys d e text m → AtDesk e
-none-made {d} {e} z o p = let (_, same) = bad-table (no-sets-no-table (d .table) z) o p in kept (ap (λ s. s .table) same) (no-table z)
+none-made {d} {e} z o p = let (_, same) = bad-table (no-sets-no-table (d .table) z) o p in kept {d = d} {e = e} (ap (λ s. s .table) same) (no-table z)
 
 obeyed : {d e : State} {text : List ℕ} {m : Meaning} → AtDesk d → Obeys d e text m → AtDesk e
 obeyed a (makes p) = made a p
@@ -83,8 +83,8 @@ pub script-run : {e : State} {script printed : List ℕ} → Script blank script
 script-run s = ended (ran blank-at-desk (s .ran)) (s .last)
 
 before-line : {d e f : State} {script line text : List ℕ} → AtDesk d → LineOf d script e line f text → AtDesk e × Answers line e f text
-before-line a (first rest u p e) = (a, p)
-before-line a (later u p e l) = before-line (obeyed a (p .obeys)) l
+before-line a (first more u e f p) = (a, p)
+before-line a (later u e f p l) = before-line (obeyed a (p .obeys)) l
 before-line a (last n u p) = (a, p)
 
 -- ---- a P line
@@ -92,7 +92,7 @@ before-line a (last n u p) = (a, p)
 parsed : {d e : State} {w text : List ℕ} → AtDesk d → Obeys d e text (parse-meaning w)
     → (text ≡ answerLine BAD-TABLE) ⊎ ((R : List Rule) × Run (d .table) R × PrintsVerdict R w text)
 parsed {d} (no-table z) p = inl (bad-table (no-sets-no-table (d .table) z) tt p .0)
-parsed {e = e} (run {R} r) (parses p k) = inr (
+parsed {d} {e} {w} (run {R} r) (parses p k) = inr (
   R,
   r,
   record {
@@ -100,7 +100,7 @@ parsed {e = e} (run {R} r) (parses p k) = inr (
     links = p .verdict .links;
     sets = inUse (view (e .table));
     printed = p .printed;
-    decides = decides r (p .parses) (λ h. demand2.verdict-by-history h _ _);
+    decides = decides r (p .parses) (λ h. demand2.verdict-by-history h (d .pool) w);
   },
 )
 

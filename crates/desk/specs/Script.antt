@@ -43,12 +43,13 @@ pub record Script (d : State) (script : List ℕ) (e : State) (printed : List �
   pub in-order : first ++ then ≡ printed
 
 -- a line of a script, with the state that the lines before it left, its own state, and what it prints
-pub data LineOf (d : State) (script : List ℕ) : State → List ℕ → State → List ℕ → Type 0 where
-  first : {e : State} {l answer : List ℕ} (rest : List ℕ) → Unbroken l → Answers (l ++ (NEWLINE ∷ [])) d e answer → (l ++ (NEWLINE ∷ [])) ++ rest ≡ script
-      → LineOf d script d (l ++ (NEWLINE ∷ [])) e answer
-  later : {e f g : State} {l rest answer line text : List ℕ} → Unbroken l → Answers (l ++ (NEWLINE ∷ [])) d e answer
-      → (l ++ (NEWLINE ∷ [])) ++ rest ≡ script → LineOf e rest f line g text → LineOf d script f line g text
-  last : {e : State} {answer : List ℕ} → script ≢ [] → Unbroken script → Answers script d e answer → LineOf d script d script e answer
+pub data LineOf : State → List ℕ → State → List ℕ → State → List ℕ → Type 0 where
+  first : {d e : State} {script l line answer : List ℕ} (rest : List ℕ) → Unbroken l → l ++ (NEWLINE ∷ []) ≡ line → line ++ rest ≡ script
+      → Answers line d e answer → LineOf d script d line e answer
+  later : {d e f g : State} {script rest l earlier answer line text : List ℕ} → Unbroken l → l ++ (NEWLINE ∷ []) ≡ earlier
+      → earlier ++ rest ≡ script → Answers earlier d e answer → LineOf e rest f line g text → LineOf d script f line g text
+  last : {d e : State} {script answer : List ℕ} → script ≢ [] → Unbroken script → Answers script d e answer
+      → LineOf d script d script e answer
 
 -- what a script begins with: numbers for 128 sets and 128 rules, for 1,024 links, all zero
 unfoldable pub blank : State

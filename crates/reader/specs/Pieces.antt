@@ -56,6 +56,19 @@ isMore Whole = false
 isMore Unread = false
 isMore Unwritten = false
 
+abbrev pub isWhole : Standing → Bool
+isWhole More = false
+isWhole Whole = true
+isWhole Unread = false
+isWhole Unwritten = false
+
+-- how scripts stand of which one could not be read
+abbrev pub atBestUnread : Standing → Standing
+atBestUnread More = Unread
+atBestUnread Whole = Unread
+atBestUnread Unread = Unread
+atBestUnread Unwritten = Unwritten
+
 -- a script stands so, unless what it printed could not be written
 abbrev pub Unless : Standing → Standing → Type 0
 Unless s r = (r ≡ s) ⊎ (r ≡ Unwritten)

@@ -5,6 +5,7 @@
 use crate::again::may_try_again;
 use libc::STDOUT_FILENO;
 use replies::ROOM;
+ghost use mathlib.Core.Bool.{false};
 ghost use mathlib.Core.Path.{_≡_};
 ghost use Prim.Native.Nat.{_≤_, _<_};
 ghost use lib.ListN.{length};
@@ -52,6 +53,7 @@ pub struct Written {
 // Writes out the first bytes of the output, unless an earlier write failed, and answers whether all is written.
 pub fn flush(out: &[u8], used: usize, is_written: bool) -> bool
     requires { ⌜ used ≤ length (now out) ⌝ }
+    ensures { λ r. ⌜ («is_written» ≡ false → r ≡ false) ⌝ }
 {
     let mut written = Written {
         at: 0,
@@ -68,7 +70,9 @@ pub fn flush(out: &[u8], used: usize, is_written: bool) -> bool
 }
 
 impl Written {
-    fn is_all(self, used: usize) -> bool {
+    fn is_all(self, used: usize) -> bool
+        ensures { λ r. ⌜ (self .«is_good» ≡ false → r ≡ false) ⌝ }
+    {
         if self.is_good {
             return self.at == used;
         }

@@ -15,7 +15,7 @@ ghost use Prim.Native.Nat.{_≤_, _<_};
 ghost use lib.ListN.{length};
 ghost use Rattle.table.specs.Layout.{mem};
 ghost use Rattle.desk.specs.Obeys.{state};
-ghost use Rattle.reader.specs.Pieces.{Behind, Unless, Brought, RanPiece, RanEnd, Turned, RanScript, RanFromBlank, isMore};
+ghost use Rattle.reader.specs.Pieces.{Behind, Unless, Brought, RanPiece, RanEnd, Turned, RanScript, RanFromBlank, isMore, isWhole, atBestUnread};
 
 // How a script stands: there may be more of it; it was run to its end and all that it prints is written; the reading failed; the
 // writing failed.
@@ -38,18 +38,26 @@ impl Standing {
         }
     }
 
-    pub fn is_whole(self) -> bool {
+    pub fn is_whole(self) -> bool
+        ensures { λ r. ⌜ r ≡ isWhole self ⌝ }
+    {
         match self {
+            Standing::More => false,
             Standing::Whole => true,
-            _ => false,
+            Standing::Unread => false,
+            Standing::Unwritten => false,
         }
     }
 
     // After a script that could not be read, however this one stands.
-    pub fn at_best_unread(self) -> Standing {
+    pub fn at_best_unread(self) -> Standing
+        ensures { λ r. ⌜ r ≡ atBestUnread self ⌝ }
+    {
         match self {
+            Standing::More => Standing::Unread,
+            Standing::Whole => Standing::Unread,
+            Standing::Unread => Standing::Unread,
             Standing::Unwritten => Standing::Unwritten,
-            _ => Standing::Unread,
         }
     }
 }

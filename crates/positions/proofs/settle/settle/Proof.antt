@@ -185,16 +185,18 @@ same-length-18 c = omega (arith, at-loop (c .before) .loop .inv .0 .5)
 
 returns-3 : tie.Need-returns-3 Inv-loop μ-loop
 returns-3 c =
-    came-refused (settling-no-sets (at-loop (c .before) .loop .inv .1) (at-saturate (c .before) .saturate .ensures)
-    (let h = at-if1 (c .before) .if1 .left in omega arith)
-    (waiting-at (at-first-waiting (c .before) .first-waiting .ensures) (at-f (c .before) .f .given .1)) (at-expand (c .before) .expand .ensures)
+    let turn = c .before in
+    came-refused (settling-no-sets (at-loop turn .loop .inv .1) (at-saturate turn .saturate .ensures)
+    (let h = at-if1 turn .if1 .left in omega arith)
+    (waiting-at (at-first-waiting turn .first-waiting .ensures) (at-f turn .f .given .1)) (at-expand turn .expand .ensures)
     (c .if2 .taken))
 
 loop-less : tie.Need-loop-less Inv-loop μ-loop
 loop-less c =
-    settling-less (at-loop (c .before) .loop .inv .1) (at-saturate (c .before) .saturate .ensures)
-    (let h = at-if1 (c .before) .if1 .left in omega arith)
-    (waiting-at (at-first-waiting (c .before) .first-waiting .ensures) (at-f (c .before) .f .given .1)) (at-expand (c .before) .expand .ensures)
+    let turn = c .before in
+    settling-less (at-loop turn .loop .inv .1) (at-saturate turn .saturate .ensures)
+    (let h = at-if1 turn .if1 .left in omega arith)
+    (waiting-at (at-first-waiting turn .first-waiting .ensures) (at-f turn .f .given .1)) (at-expand turn .expand .ensures)
     (c .if2 .left)
 
 loop-again : tie.Need-loop-again Inv-loop μ-loop
@@ -207,9 +209,9 @@ loop-again c = (
     omega (arith, same .4),
     omega (arith, same .5),
   ),
-  settling-next (at-loop (c .before) .loop .inv .1) (at-saturate (c .before) .saturate .ensures)
-      (let h = at-if1 (c .before) .if1 .left in omega arith)
-      (waiting-at (at-first-waiting (c .before) .first-waiting .ensures) (at-f (c .before) .f .given .1)) (at-expand (c .before) .expand .ensures)
+  let turn = c .before in
+      settling-next (at-loop turn .loop .inv .1) (at-saturate turn .saturate .ensures) (let h = at-if1 turn .if1 .left in omega arith)
+      (waiting-at (at-first-waiting turn .first-waiting .ensures) (at-f turn .f .given .1)) (at-expand turn .expand .ensures)
       (c .if2 .left),
 )
 
