@@ -16,8 +16,9 @@ use Rattle.theory.proofs.Symbols.{is-nonterminal}
 use Rattle.table.specs.Layout.{mem, setsIn, view}
 use Rattle.links.specs.Records.{source, under, position, inSet, linkOf, linksIn}
 use Rattle.links.proofs.Listed.{in-links, count as links-count}
-use Rattle.leftmost.specs.Shown.{symbolOf, Shown}
-use Rattle.leftmost.specs.Shown.Shown.{start, linked}
+use Rattle.leftmost.specs.Within.{Spans}
+use Rattle.leftmost.specs.Shown.{symbolOf, InHand}
+use Rattle.leftmost.specs.Shown.InHand.{start, linked}
 use Rattle.spans.specs.Area.{areaFor, keyOf, keyAt, symbolAt, startAt, endAt, costAt, choiceAt, firstAt, Place}
 use Rattle.spans.specs.Gathered.{Graphed, First, Ordered, Shows, Gathered}
 use Rattle.spans.specs.Steps.{Symbols, Has, Inserts, Readable, symbolTo, keyTo, Of, Taken, Begun}
@@ -97,7 +98,10 @@ module _ {rs ws : List ℕ} {n : ℕ} {b : List ℕ} {l : ℕ} (graphed : Graphe
     abbrev t : Table
     t = view (mem rs cells ws)
 
-    shown-low : {x i j : ℕ} → Shown t line (linksIn b l) x i j → j ≤ n
+    abbrev S : Spans
+    S = InHand t line (linksIn b l)
+
+    shown-low : {x i j : ℕ} → S x i j → j ≤ n
     shown-low (start p q r) = omega arith
     shown-low (linked s u m q h) = in-line m .end
 
@@ -113,7 +117,7 @@ module _ {rs ws : List ℕ} {n : ℕ} {b : List ℕ} {l : ℕ} (graphed : Graphe
         few : after ≤ 4097
         few = few-spans taken inserts
 
-        shows-every : {x i j : ℕ} → Shown t line (linksIn b l) x i j → (e : ℕ) × (e < after) × Place c e x i j
+        shows-every : {x i j : ℕ} → S x i j → (e : ℕ) × (e < after) × Place c e x i j
         shows-every {x} {i} {j} (start p q r) =
             let same : _ ≡ keyOf x i j = its-key ∙ λ z. keyOf (sym p z) (sym q z) ((sym long ∙ sym r) z) in
             place-of (subst (Has c after) same (inserts .there)) (omega arith) (omega arith)
@@ -123,13 +127,13 @@ module _ {rs ws : List ℕ} {n : ℕ} {b : List ℕ} {l : ℕ} (graphed : Graphe
             let new : Has c after (keyOf x i j) = subst (Has c after) (old .is ∙ (λ z. keyOf (of z) i j)) (inserts .held (old .place) (old .inside)) in
             place-of new (omega (arith, is-nonterminal x .0 h .1)) (in-line m .start)
 
-        shown-at : {e x i j : ℕ} → Place c e x i j → Shown t line (linksIn b l) x i j
-            → Shown t line (linksIn b l) (symbolAt c e) (startAt c e) (endAt c e)
+        shown-at : {e x i j : ℕ} → Place c e x i j → S x i j
+            → S (symbolAt c e) (startAt c e) (endAt c e)
         shown-at {e} {x} {i} p s =
-            subst (λ x. Shown t line (linksIn b l) x (startAt c e) (endAt c e)) (sym (p .symbol))
-            (subst (λ i. Shown t line (linksIn b l) x i (endAt c e)) (sym (p .start)) (subst (Shown t line (linksIn b l) x i) (sym (p .ends)) s))
+            subst (λ x. S x (startAt c e) (endAt c e)) (sym (p .symbol))
+            (subst (λ i. S x i (endAt c e)) (sym (p .start)) (subst (S x i) (sym (p .ends)) s))
 
-        shows-only : (e : ℕ) → e < after → Shown t line (linksIn b l) (symbolAt c e) (startAt c e) (endAt c e)
+        shows-only : (e : ℕ) → e < after → S (symbolAt c e) (startAt c e) (endAt c e)
         shows-only e h = ⊎-elim
             (λ q. shown-at (key-place (q ∙ its-key) (omega arith) (omega arith)) (start refl refl (sym long)))
             (λ g.
@@ -140,7 +144,7 @@ module _ {rs ws : List ℕ} {n : ℕ} {b : List ℕ} {l : ℕ} (graphed : Graphe
             (linked (o .link .s) (o .link .t) m (sym (its-symbol m)) (o .span)))
             (inserts .only e h)
 
-        shows : Shows t line (linksIn b l) c after
+        shows : Shows S c after
         shows = record { every = λ x i j s. shows-every s; only = shows-only }
 
         -- ---- and what stands behind them
@@ -173,7 +177,7 @@ module _ {rs ws : List ℕ} {n : ℕ} {b : List ℕ} {l : ℕ} (graphed : Graphe
           keys-g : SameKeys f g after
           keys-g = record { each = λ e h. begun .low e (omega (arith, few)) }
 
-          shows-g : Shows t line (linksIn b l) g after
+          shows-g : Shows S g after
           shows-g = same-shows keys-g (same-shows keys-f shows)
 
           first-g : (j : ℕ) → j ≤ n + 1 → First g after j (firstAt g j)
@@ -188,15 +192,15 @@ module _ {rs ws : List ℕ} {n : ℕ} {b : List ℕ} {l : ℕ} (graphed : Graphe
                 | no h ↦ omega (arith, p .inside)
               ]
 
-          pub gathered : Gathered t line (linksIn b l) g after
+          pub gathered : Gathered n S g after
           gathered = record {
             ordered = record {
-              short = omega (arith, line-low);
+              short = line-low;
               room = omega (arith, begun .long, long-f);
               few = few;
               ascending = same-ascending keys-g (same-ascending keys-f (inserts .ascending));
-              firsts = λ j h. first-g j (omega arith);
-              last = ap (λ n. firstAt g (n + 1)) long ∙ last-g;
+              firsts = first-g;
+              last = last-g;
             };
             shows = shows-g;
             costs = cost-zero;

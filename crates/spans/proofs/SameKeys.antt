@@ -3,9 +3,7 @@ use mathlib.Core.Path.{_≡_, sym, ap, subst}
 use mathlib.Core.List.{List}
 use Prim.Native.Nat.{ℕ, _-_, _/_, _%_, _<_}
 use native.Mathlib.Omega.{arith}
-use Rattle.theory.specs.Table.{Table}
-use Rattle.theory.specs.Parse.{Link}
-use Rattle.leftmost.specs.Shown.{Shown}
+use Rattle.leftmost.specs.Within.{Spans}
 use Rattle.spans.specs.Area.{keyAt, endAt, Place}
 use Rattle.spans.specs.Gathered.{First, Ascending, Shows}
 use Rattle.spans.specs.Steps.{Passed}
@@ -38,8 +36,8 @@ module _ {a b : List ℕ} {count : ℕ} (same : SameKeys a b count) where
       let q = same .each e h in
       record { symbol = omega (arith, p .symbol); start = omega (arith, p .start); ends = omega (arith, p .ends) }
 
-  pub same-shows : {t : Table} {line : List ℕ} {ls : List Link} → Shows t line ls a count → Shows t line ls b count
-  same-shows {t} {line} {ls} s = record {
+  pub same-shows : {S : Spans} → Shows S a count → Shows S b count
+  same-shows {S} s = record {
     every = λ x i j h. let (e, l, p) = s .every x i j h in (e, l, same-place l p);
-    only = λ e h. subst (λ k. Shown t line ls (k % 256) (255 - k / 256 % 256) (k / 65536)) (sym (same .each e h)) (s .only e h);
+    only = λ e h. subst (λ k. S (k % 256) (255 - k / 256 % 256) (k / 65536)) (sym (same .each e h)) (s .only e h);
   }

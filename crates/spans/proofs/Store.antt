@@ -11,10 +11,8 @@ use lib.ListN.{length, getD, set, length-set}
 use lib.Seq.{getD-set-same, getD-set-other}
 use Rattle.laws.proofs.Choice.{when-yes, when-no}
 use Rattle.theory.specs.Derivation.{Grammar}
-use Rattle.theory.specs.Table.{Table}
-use Rattle.theory.specs.Parse.{Link}
+use Rattle.leftmost.specs.Within.{Spans}
 use Rattle.leftmost.specs.Kept.{Sets}
-use Rattle.leftmost.specs.Shown.{Shown}
 use Rattle.spans.specs.Area.{symbolAt, startAt, costAt, choiceAt, firstAt, Place, placeOf, kept, keptAt, storeOf, setKept}
 use Rattle.spans.specs.Gathered.{First, Ascending, Ordered, Shows, Gathered}
 use Rattle.spans.proofs.SameKeys.{SameKeys, other-way, same-ascending, same-first, same-place, same-shows}
@@ -42,16 +40,16 @@ module _ (G : Grammar) (a : List ℕ) (count x i j : ℕ) where
       (λ (q, none). absurd (some (ap (λ k. k .cost) (store-none none))))
       (place-cases a count x i j)
 
--- only spans that are shown have a cost
-pub store-shown : {t : Table} {line : List ℕ} {ls : List Link} {a : List ℕ} {count : ℕ} → Shows t line ls a count → (G : Grammar) (x i j : ℕ)
-    → storeOf G a count x i j .cost ≢ 0 → Shown t line ls x i j
-store-shown {t} {line} {ls} {a} {count} shows G x i j some =
+-- only the spans at hand have a cost
+pub store-within : {S : Spans} {a : List ℕ} {count : ℕ} → Shows S a count → (G : Grammar) (x i j : ℕ) → storeOf G a count x i j .cost ≢ 0
+    → S x i j
+store-within {S} {a} {count} shows G x i j some =
     let (e, h, p) = store-some G a count x i j some in
-    subst (λ x. Shown t line ls x i j) (p .symbol)
-    (subst (λ i. Shown t line ls (symbolAt a e) i j) (p .start) (subst (Shown t line ls (symbolAt a e) (startAt a e)) (p .ends) (shows .only e h)))
+    subst (λ x. S x i j) (p .symbol)
+    (subst (λ i. S (symbolAt a e) i j) (p .start) (subst (S (symbolAt a e) (startAt a e)) (p .ends) (shows .only e h)))
 
 -- after gathering nothing has
-pub store-empty : {t : Table} {line : List ℕ} {ls : List Link} {a : List ℕ} {count : ℕ} → Gathered t line ls a count → (G : Grammar) (x i j : ℕ)
+pub store-empty : {n : ℕ} {S : Spans} {a : List ℕ} {count : ℕ} → Gathered n S a count → (G : Grammar) (x i j : ℕ)
     → storeOf G a count x i j .cost ≡ 0
 store-empty {a = a} {count = count} g G x i j = ⊎-elim
     (λ (h, p). ap (λ k. k .cost) (store-at G a count x i j (g .ordered .ascending) h p) ∙ g .costs (placeOf a count x i j) h)
@@ -88,7 +86,7 @@ module _ (a : List ℕ) (e cost choice : ℕ) where
           last = first (n + 1) ∙ o .last;
         }
 
-    pub kept-shows : {t : Table} {line : List ℕ} {ls : List Link} → Shows t line ls a count → Shows t line ls (setKept a e cost choice) count
+    pub kept-shows : {S : Spans} → Shows S a count → Shows S (setKept a e cost choice) count
     kept-shows s = same-shows kept-keys s
 
     module _ (G : Grammar) (room : 12291 ≤ length a) (ascending : Ascending a count) where

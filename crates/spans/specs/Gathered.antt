@@ -3,14 +3,12 @@ use mathlib.Core.Path.{_≡_}
 use mathlib.Core.List.{List}
 use Prim.Native.Nat.{ℕ, _+_, _≤_, _<_}
 use lib.ListN.{length}
-use Rattle.theory.specs.Table.{Table}
-use Rattle.theory.specs.Parse.{Link}
 use Rattle.table.specs.Layout.{mem, setsIn}
 use Rattle.table.specs.Laid.{Formed}
 use Rattle.links.specs.declared.Here.{Here}
 use Rattle.links.specs.Records.{graph, counts}
 use Rattle.links.specs.Held.{Held}
-use Rattle.leftmost.specs.Shown.{Shown}
+use Rattle.leftmost.specs.Within.{Spans}
 use Rattle.spans.specs.Area.{areaFor, keyAt, symbolAt, startAt, endAt, costAt, choiceAt, firstAt, Place}
 
 -- The link buffer b holds the graph of a line of n tokens that was read to its end, l links, on a table in form whose rules and words
@@ -51,14 +49,14 @@ pub record OrderedAt (j : ℕ) (a : List ℕ) (count : ℕ) : Type 0 where
   pub inside : j ≤ n
   pub ordered : Ordered n a count
 
--- the places are those of the spans that the links show, and of no others
-pub record Shows (t : Table) (line : List ℕ) (ls : List Link) (a : List ℕ) (count : ℕ) : Type 0 where
-  pub every : (x i j : ℕ) → Shown t line ls x i j → (e : ℕ) × (e < count) × Place a e x i j
-  pub only : (e : ℕ) → e < count → Shown t line ls (symbolAt a e) (startAt a e) (endAt a e)
+-- the places are those of the spans S, and of no others
+pub record Shows (S : Spans) (a : List ℕ) (count : ℕ) : Type 0 where
+  pub every : (x i j : ℕ) → S x i j → (e : ℕ) × (e < count) × Place a e x i j
+  pub only : (e : ℕ) → e < count → S (symbolAt a e) (startAt a e) (endAt a e)
 
--- all of them, with nothing kept yet
-pub record Gathered (t : Table) (line : List ℕ) (ls : List Link) (a : List ℕ) (count : ℕ) : Type 0 where
-  pub ordered : Ordered (length line) a count
-  pub shows : Shows t line ls a count
+-- the spans S of a line of n tokens, with nothing kept yet
+pub record Gathered (n : ℕ) (S : Spans) (a : List ℕ) (count : ℕ) : Type 0 where
+  pub ordered : Ordered n a count
+  pub shows : Shows S a count
   pub costs : (e : ℕ) → e < count → costAt a e ≡ 0
   pub choices : (e : ℕ) → e < count → choiceAt a e ≡ 0

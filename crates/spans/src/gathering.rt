@@ -6,11 +6,12 @@ use super::firsts::put_firsts;
 use super::insertion::insert;
 use super::symbols_of::symbols_of;
 use symbols::Symbol;
-ghost use mathlib.Core.List.{List, []};
-ghost use Prim.Native.Nat.{ℕ, _+_, _≤_, _<_};
+ghost use mathlib.Core.List.{List};
+ghost use Prim.Native.Nat.{ℕ, _≤_, _<_};
 ghost use lib.ListN.{length};
 ghost use Rattle.table.specs.Layout.{mem, view};
 ghost use Rattle.links.specs.Records.{linkOf, linksIn};
+ghost use Rattle.leftmost.specs.Shown.{InHand};
 ghost use Rattle.spans.specs.Area.{areaFor};
 ghost use Rattle.spans.specs.Gathered.{Graphed, Ascending, Gathered};
 ghost use Rattle.spans.specs.Steps.{Readable, Takes, Taken};
@@ -27,8 +28,9 @@ pub fn gather(
 ) -> usize
     requires { ⌜ Graphed (now rules) (now words) (length (now line)) (now links) count ⌝ }
     requires { ⌜ areaFor (length (now line)) ≤ length (now area) ⌝ }
-    ensures { λ r. ⌜ ((cells : List ℕ) → Gathered (view (mem (now (rules .entry)) cells (now (words .entry)))) (now (line .entry))
-        (linksIn (now (links .entry)) count) (now (area .exit)) r) ⌝ }
+    ensures { λ r. ⌜ ((cells : List ℕ) → Gathered (length (now (line .entry)))
+        (InHand (view (mem (now (rules .entry)) cells (now (words .entry)))) (now (line .entry)) (linksIn (now (links .entry)) count))
+        (now (area .exit)) r) ⌝ }
 {
     let symbols = symbols_of(rules, words);
     let linked = take_links(links, count, &symbols, area);
