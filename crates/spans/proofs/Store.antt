@@ -94,10 +94,10 @@ module _ (a : List ℕ) (e cost choice : ℕ) where
       unfolding setKept
       kept-here =
           let p : costAt (set (set a (4097 + e) cost) (8194 + e) choice) e ≡ cost =
-              getD-set-other (set a (4097 + e) cost) (8194 + e) (4097 + e) choice 0 (λ q. omega arith)
-              ∙ getD-set-same a (4097 + e) cost 0 (omega arith) in
+          getD-set-other (set a (4097 + e) cost) (8194 + e) (4097 + e) choice 0 (λ q. omega arith)
+          ∙ getD-set-same a (4097 + e) cost 0 (omega arith) in
           let q : choiceAt (set (set a (4097 + e) cost) (8194 + e) choice) e ≡ choice =
-              getD-set-same (set a (4097 + e) cost) (8194 + e) choice 0 (omega (arith, length-set a (4097 + e) cost)) in
+          getD-set-same (set a (4097 + e) cost) (8194 + e) choice 0 (omega (arith, length-set a (4097 + e) cost)) in
           λ z. kept G (p z) (q z)
 
       kept-there : (f : ℕ) → f < count → f ≢ e → keptAt G (setKept a e cost choice) f ≡ keptAt G a f
@@ -114,12 +114,12 @@ module _ (a : List ℕ) (e cost choice : ℕ) where
         each = λ y s m. ⊎-elim
             (λ (h, q). elim (ℕ-discrete (placeOf a count y s m) e) [
               | yes r ↦
-              let same = subst (λ f. Place a f y s m) r q in
-              inl (sym (same .symbol) ∙ p .symbol, (sym (same .start) ∙ p .start, sym (same .ends) ∙ p .ends))
+                  let same = subst (λ f. Place a f y s m) r q in
+                  inl (sym (same .symbol) ∙ p .symbol, (sym (same .start) ∙ p .start, sym (same .ends) ∙ p .ends))
               | no d ↦
-              inr
-              (store-at G b count y s m (same-ascending kept-keys ascending) h (same-place kept-keys h q) ∙ kept-there (placeOf a count y s m) h d
-              ∙ sym (store-at G a count y s m ascending h q))
+                  inr
+                  (store-at G b count y s m (same-ascending kept-keys ascending) h (same-place kept-keys h q) ∙ kept-there (placeOf a count y s m) h d
+                  ∙ sym (store-at G a count y s m ascending h q))
             ])
             (λ (r, none). inr
             (store-none G b count y s m (λ f h q. none f h (same-place (other-way kept-keys) h q)) ∙ sym (store-none G a count y s m none)))
