@@ -1,8 +1,8 @@
 /* Skydoublet's calls for C and C++: a grammar table in memory that the caller lends, changed rule by rule, and lines parsed over it.
  *
  * The library is target/staticlib/libskydoublet.a, made by `rt staticlib skydoublet` from proved code, for x86-64 Linux. It
- * allocates nothing, keeps nothing between calls and takes one function from outside, C's memset. "01" is the document that says
- * what each call does.
+ * allocates nothing, keeps nothing between calls and takes one function from outside, C's memset. "01" is docs/RULES.md, which
+ * says what each call does.
  *
  * Memory. Each slice is lent as a pointer and the count of its elements. A table is three slices, and Parse takes a link buffer:
  *

@@ -28,7 +28,7 @@ pub const UNDER: usize = 1;
 pub const BEFORE: usize = 2;
 
 // Of a node: its position, its set and its last link.
-const POSITION: usize = 3;
+pub const POSITION: usize = 3;
 
 pub const SET: usize = 4;
 

@@ -3,7 +3,7 @@
 use mathlib.Core.Path.{_≡_, refl, sym, ap, subst, subst₂}
 use mathlib.Core.Logic.{_≢_}
 use mathlib.Core.List.{List, [], _∷_}
-use Prim.Native.Nat.{ℕ}
+use Prim.Native.Nat.{ℕ, _<_}
 use native.Mathlib.Numerals.{add-one}
 use native.Mathlib.Omega.{arith}
 use lib.ListN.{length}
@@ -13,17 +13,19 @@ use Rattle.symbols.specs.declared.answer.Answer.the-variants.{Accept, Reject, N
 use Rattle.theory.specs.Table.{Table}
 use Rattle.theory.specs.Parse.{outcome}
 use Rattle.theory.specs.Steps.{Shifted}
-use Rattle.theory.specs.Steps.Steps.{accepts, rejects, stuck, shift-full, shifts as shifts-on}
+use Rattle.theory.specs.Steps.Steps.{accepts, rejects, stuck, shift-full}
+use Rattle.theory.specs.Reaches.Reaches.{there, shifts as shifts-on}
+use Rattle.theory.proofs.Reaching.{reaches-leads, reaches-on}
 use Rattle.theory.proofs.Grounded.{Grounded, shifted-grounded}
 use Rattle.table.specs.Layout.{Mem, view}
 use Rattle.links.specs.declared.Here.{Here}
 use Rattle.links.specs.declared.Counts.{Counts}
-use Rattle.links.specs.Records.{Graph, graph, linksOf}
+use Rattle.links.specs.Records.{Graph, graph, counts, linksOf}
 use Rattle.links.proofs.Listed.{count}
 use Rattle.saturation.specs.Ends.{Shifts, Accepting}
 use Rattle.theory.proofs.Shifting.{shifting, not-fewer, none-new}
 use Rattle.positions.specs.declared.Verdict.{Verdict}
-use Rattle.positions.specs.Reading.{Settles, Refuses, SettlesOr, Advances, AdvancesOr, Finishes}
+use Rattle.positions.specs.Reading.{Stands, Settles, Refuses, SettlesOr, Advances, AdvancesOr, Holds, Finishes}
 use Rattle.positions.specs.declared.Advanced.the-variants.{On, Ends}
 use Rattle.positions.specs.declared.settle.Settled.the-variants.{Ready as ReadyWith, Refused}
 
@@ -63,10 +65,10 @@ module _ {h : Here} {m : Mem} {x : Graph} {n : Mem} {b at : List ℕ} where
       second : {i : ℕ} {d : Counts} → On s c ≡ On i d → c ≡ d
       second e = cc
 
-  pub came-to-end : {k : ℕ} {v : Verdict} → ((w : List ℕ) → Finishes h (k ∷ w) m x n v) → AdvancesOr h k m x n b at (Ends v)
+  pub came-to-end : {k : ℕ} {v : Verdict} → ((w : List ℕ) → Finishes h (k ∷ w) m x n b v) → AdvancesOr h k m x n b at (Ends v)
   came-to-end {k} {v} f = record {
     on = λ i d e. absurd (let z : _≡_ {A = ℕ} 0 1 = cc in omega arith);
-    ends = λ u e. subst (λ u. (w : List ℕ) → Finishes h (k ∷ w) m x n u) (the e) f;
+    ends = λ u e. subst (λ u. (w : List ℕ) → Finishes h (k ∷ w) m x n b u) (the e) f;
   }
     where
       the : {u : Verdict} → Ends v ≡ Ends u → v ≡ u
@@ -74,8 +76,9 @@ module _ {h : Here} {m : Mem} {x : Graph} {n : Mem} {b at : List ℕ} where
 
 -- ---- a position that was not settled
 
-pub refuses : {h : Here} {m : Mem} {x : Graph} {n : Mem} (a : Answer) → Refuses h m x n (numberOf a) → (w : List ℕ) → Finishes h w m x n (verdict a 0)
-refuses a r w = record { kept = r .kept; steps = r .steps w }
+pub refuses : {h : Here} {m : Mem} {x : Graph} {n : Mem} {b : List ℕ} (a : Answer) → Refuses h m x n (numberOf a)
+    → (w : List ℕ) → Finishes h w m x n b (verdict a 0)
+refuses a r w = record { kept = r .kept; steps = r .steps w; accepted = λ e. absurd (let h = r .refusal in omega arith) }
 
 -- ---- a settled one
 
@@ -91,13 +94,31 @@ module _ {h : Here} {m : Mem} {x : Graph} {n : Mem} {y : Graph} (S : Settles h m
 
   -- ---- at the end of the line: "accept if a node here has the accept mark, else reject"
 
-  pub ends-accepted : Accepting t p (linksOf y) → Finishes h [] m x n (verdict Accept (y .links))
-  ends-accepted a = record { kept = S .kept; steps = S .back [] _ (accepts (S .ready) (a .here) (a .mark) (ap (λ k. outcome 1 k t) size)) }
+  -- the graph in the buffer is this position's
+  holds : Holds (h .size) (view m) p (linksOf x) [] n (y .buf) (y .links)
+  holds = record {
+    last = h;
+    at = y .at;
+    nodes = y .nodes;
+    stands = subst (λ o. Stands h n (graph (y .buf) (y .at) (counts (y .nodes) (y .links) o))) (S .stands .in-pool) (S .stands);
+    from = S .from;
+    reaches = S .reaches [];
+    ready = S .ready;
+  }
 
-  pub ends-rejected : (Accepting t p (linksOf y) → ⊥) → Finishes h [] m x n (verdict Reject (y .links))
+  pub ends-accepted : Accepting t p (linksOf y) → Finishes h [] m x n (y .buf) (verdict Accept (y .links))
+  ends-accepted a = record {
+    kept = S .kept;
+    steps = reaches-leads (S .reaches []) _ (accepts (S .ready) (a .here) (a .mark) (ap (λ k. outcome 1 k t) size));
+    accepted = λ e. holds;
+  }
+
+  pub ends-rejected : (Accepting t p (linksOf y) → ⊥) → Finishes h [] m x n (y .buf) (verdict Reject (y .links))
   ends-rejected a = record {
     kept = S .kept;
-    steps = S .back [] _ (rejects (S .ready) (λ u i b. a (record { set = u; here = i; mark = b })) (ap (λ k. outcome 2 k t) size));
+    steps = reaches-leads (S .reaches []) _
+        (rejects (S .ready) (λ u i b. a (record { set = u; here = i; mark = b })) (ap (λ k. outcome 2 k t) size));
+    accepted = λ e. absurd (omega arith);
   }
 
   -- ---- before it
@@ -107,13 +128,14 @@ module _ {h : Here} {m : Mem} {x : Graph} {n : Mem} {y : Graph} (S : Settles h m
     grown = count (z .buf) (z .links)
 
     -- "More than the pool: NO-LINKS."
-    pub ends-over : z .over ≢ 0 → (w : List ℕ) → Finishes h (k ∷ w) m x n (verdict NoLinks 0)
+    pub ends-over : z .over ≢ 0 → {b : List ℕ} (w : List ℕ) → Finishes h (k ∷ w) m x n b (verdict NoLinks 0)
     ends-over e w = record {
       kept = S .kept;
       steps =
           let s = shifting t p k (linksOf y) (S .stands .grounded) in
           let f = D .more e _ s in
-          S .back (k ∷ w) _ (shift-full (S .ready) s (let g = S .ready .in-pool in omega arith) f refl);
+          reaches-leads (S .reaches (k ∷ w)) _ (shift-full (S .ready) s (let g = S .ready .in-pool in omega arith) f refl);
+      accepted = λ e. absurd (omega arith);
     }
 
     module _ (e : z .over ≡ 0) where
@@ -121,10 +143,13 @@ module _ {h : Here} {m : Mem} {x : Graph} {n : Mem} {y : Graph} (S : Settles h m
       shifted = D .whole e
 
       -- "None: reject."
-      pub ends-stuck : z .links ≡ y .links → (w : List ℕ) → Finishes h (k ∷ w) m x n (verdict Reject (y .links))
+      pub ends-stuck : z .links ≡ y .links → {b : List ℕ} (w : List ℕ) → Finishes h (k ∷ w) m x n b (verdict Reject (y .links))
       ends-stuck q w = record {
         kept = S .kept;
-        steps = S .back (k ∷ w) _ (stuck (S .ready) (none-new (S .stands .grounded) shifted (omega (arith, grown, size))) (ap (λ k. outcome 2 k t) size));
+        steps =
+            let none = none-new (S .stands .grounded) shifted (omega (arith, grown, size)) in
+            reaches-leads (S .reaches (k ∷ w)) _ (stuck (S .ready) none (ap (λ k. outcome 2 k t) size));
+        accepted = λ e. absurd (omega arith);
       }
 
       -- "Then the next position."
@@ -138,6 +163,8 @@ module _ {h : Here} {m : Mem} {x : Graph} {n : Mem} {y : Graph} (S : Settles h m
           in-pool = e;
           grounded = subst (λ i. Grounded t i (linksOf z)) (sym (add-one p)) (shifted-grounded (S .stands .grounded) shifted);
         };
-        back = λ w o s. S .back (k ∷ w) o (shifts-on (S .ready) shifted
-            (let f = not-fewer (S .stands .grounded) shifted in omega (arith, grown, size)) (omega (arith, grown, D .held .core .fits)) s);
+        reaches = λ w.
+            let f = not-fewer (S .stands .grounded) shifted in
+            let more : length (linksOf y) < length (linksOf z) = omega (arith, grown, size) in
+            reaches-on (S .reaches (k ∷ w)) (shifts-on (S .ready) shifted more (omega (arith, grown, D .held .core .fits)) there);
       }

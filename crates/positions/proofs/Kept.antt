@@ -1,4 +1,5 @@
--- An expansion on the lent numbers keeps the form, the sizes and what lies beyond the pools, and so do expansions in a row. Assumes nothing.
+-- An expansion on the lent numbers keeps the form, the sizes and what lies beyond the pools, and so do expansions in a row. Assumes
+-- nothing.
 use mathlib.Core.Path.{_≡_, refl, sym, _∙_, ap}
 use mathlib.Core.Bool.{Bool}
 use Prim.Native.Nat.{ℕ}
@@ -15,7 +16,8 @@ use Rattle.table.proofs.Becoming.{becomes-none, sets-seen, rules-seen}
 use Rattle.positions.specs.Reading.{Kept}
 
 same-rules : (t : Table) (u : ℕ) → length (expand t u .table .rules) ≡ length (t .rules)
-same-rules t u = expand-cases (λ e. length (e .table .rules) ≡ length (t .rules)) t u (λ a. refl) (λ a b. length-map (t .rules) freed) (λ a b. length-map (t .rules) freed)
+same-rules t u = expand-cases (λ e. length (e .table .rules) ≡ length (t .rules)) t u (λ a. refl)
+    (λ a b. length-map (t .rules) freed) (λ a b. length-map (t .rules) freed)
 
 pub kept-none : {m : Mem} → Formed m → Kept m m
 kept-none f = record {

@@ -10,12 +10,15 @@ use borrow.Author.Tests.{not-true, not-false}
 use lib.ListN.{length}
 use Rattle.theory.specs.Table.{Table}
 use Rattle.theory.specs.Parse.{Link, outcome}
-use Rattle.theory.specs.Steps.{Saturated, Lowest, Steps}
+use Rattle.theory.specs.Steps.{Saturated, Lowest}
 use Rattle.theory.specs.Steps.Linked.{given}
-use Rattle.theory.specs.Steps.Steps.{no-links, no-sets, expands}
+use Rattle.theory.specs.Steps.Steps.{no-links, no-sets}
+use Rattle.theory.specs.Reaches.{Reaches}
+use Rattle.theory.specs.Reaches.Reaches.{there, expands}
 use Rattle.theory.proofs.Exact.{in-nodesAt}
 use Rattle.theory.proofs.Later.{Later}
 use Rattle.theory.proofs.Saturation.{saturation}
+use Rattle.theory.proofs.Reaching.{reaches-leads, reaches-on}
 use Rattle.theory.proofs.Grounded.{node-reach, saturated-grounded, later-grounded, lowest-reach}
 use Rattle.table.specs.Layout.{Mem, view}
 use Rattle.links.specs.declared.Here.{Here}
@@ -26,7 +29,7 @@ use Rattle.kernels.specs.declared.Found.{Found}
 use Rattle.kernels.specs.declared.Found.the-variants.{At, Nothing}
 use Rattle.expansion.specs.Expansion.{Expandable, Expands}
 use Rattle.expansion.proofs.Promises.{expand-keeps, expand-expanded}
-use Rattle.positions.specs.Reading.{Stands, Kept, Leads, Settles, Refuses}
+use Rattle.positions.specs.Reading.{Stands, Kept, Settles, Refuses}
 use Rattle.positions.proofs.Kept.{kept-none, kept-trans, kept-expanded}
 use Rattle.positions.proofs.Turns.{turnsLeft, fewer-turns}
 
@@ -38,10 +41,10 @@ waiting-at {t} {p} {u} {ls} w e = subst (Waiting t p ls) e w
 pub record Settling (h : Here) (m : Mem) (x : Graph) (n : Mem) (y : Graph) : Type 0 where
   pub kept : Kept m n
   pub stands : Stands h n y
-  pub back : (w : List ℕ) → Leads (h .size) (view m) (h .position) (linksOf x) w (view n) (h .position) (linksOf y) w
+  pub reaches : (w : List ℕ) → Reaches (h .size) (view m) (h .position) (linksOf x) w (view n) (h .position) (linksOf y) w
 
 pub settling-start : {h : Here} {m : Mem} {x : Graph} → Stands h m x → Settling h m x m x
-settling-start s = record { kept = kept-none (s .formed); stands = s; back = λ w o q. q }
+settling-start s = record { kept = kept-none (s .formed); stands = s; reaches = λ w. there }
 
 module _ {h : Here} {m : Mem} {x : Graph} {n : Mem} {y z : Graph} (I : Settling h m x n y) (S : Saturates (view n) h y z) where
   abbrev t : Table
@@ -54,7 +57,10 @@ module _ {h : Here} {m : Mem} {x : Graph} {n : Mem} {y z : Graph} (I : Settling 
   pub settling-over : z .over ≢ 0 → Refuses h m x n 21
   settling-over e = record {
     kept = I .kept;
-    steps = λ w. let (l, s) = saturation t p (linksOf y) (I .stands .grounded .once) in I .back w _ (no-links s (S .more e l s) refl);
+    refusal = omega arith;
+    steps = λ w.
+        let (l, s) = saturation t p (linksOf y) (I .stands .grounded .once) in
+        reaches-leads (I .reaches w) _ (no-links s (S .more e l s) refl);
   }
 
   module _ (e : z .over ≡ 0) where
@@ -76,7 +82,7 @@ module _ {h : Here} {m : Mem} {x : Graph} {n : Mem} {y z : Graph} (I : Settling 
       };
       from = linksOf y;
       ready = record { saturated = saturated; in-pool = fits; none-left = subst (Waiting t p (linksOf z)) q w };
-      back = I .back;
+      reaches = I .reaches;
     }
 
     module _ {u : ℕ} (w : Lowest t p (linksOf z) u) where
@@ -90,7 +96,9 @@ module _ {h : Here} {m : Mem} {x : Graph} {n : Mem} {y z : Graph} (I : Settling 
       pub settling-no-sets : {n′ : Mem} {r : Bool} → Expands n n′ u r → not r ≡ true → Refuses h m x n′ 20
       settling-no-sets {r = r} X q = record {
         kept = kept-trans (I .kept) (kept-expanded settling-expandable X);
-        steps = λ l. I .back l _ (no-sets saturated fits w (sym (X .done) ∙ not-true r q) (ap (outcome 20 0) (sym (X .table .seen))));
+        refusal = omega arith;
+        steps = λ l. reaches-leads (I .reaches l) _
+            (no-sets saturated fits w (sym (X .done) ∙ not-true r q) (ap (outcome 20 0) (sym (X .table .seen))));
       }
 
       module _ {n′ : Mem} {r : Bool} (X : Expands n n′ u r) (q : not r ≡ false) where
@@ -113,10 +121,13 @@ module _ {h : Here} {m : Mem} {x : Graph} {n : Mem} {y z : Graph} (I : Settling 
                 in-pool = e;
                 grounded = later-grounded (I .stands .formed .form) later (saturated-grounded (I .stands .grounded) saturated);
               };
-              back = λ l o k. I .back l o (expands saturated fits w (sym (X .done) ∙ done) (subst (λ t. Steps (h .size) t p (linksOf z) l o) (X .table .seen) k));
+              reaches = λ l.
+                  let now = subst (λ t. Reaches (h .size) t p (linksOf z) l (view n′) p (linksOf z) l) (X .table .seen) there in
+                  reaches-on (I .reaches l) (expands saturated fits w (sym (X .done) ∙ done) now);
             }
 
         pub settling-less : turnsLeft (view n′) (linksOf z) p < turnsLeft t (linksOf y) p
         settling-less = fewer-turns t (view n′) (linksOf y) (linksOf z) p u
-            (λ s i. node-reach (I .stands .grounded) (in-nodesAt (linksOf y) p .0 i)) later (λ l i. saturated .all l .1 (given i)) (w .here) (w .unexpanded)
+            (λ s i. node-reach (I .stands .grounded) (in-nodesAt (linksOf y) p .0 i)) later (λ l i. saturated .all l .1 (given i))
+            (w .here) (w .unexpanded)
             (expand-expanded settling-expandable X done)

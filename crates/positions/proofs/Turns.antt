@@ -47,10 +47,13 @@ module _ (t : Table) (ls : List Link) (p : ℕ) where
 
   once : Distinct (expandedAt t ls p)
   unfolding expandedAt
-  once = distinct-keep (isExpanded t) (distinct-add eqb eqb-iff (consIf (eqb p 0) 0 []) (map (λ l. l .s) (keep (λ l. eqb (l .i) p) ls)) (root-once (eqb p 0)))
+  once = distinct-keep (isExpanded t)
+      (distinct-add eqb eqb-iff (consIf (eqb p 0) 0 []) (map (λ l. l .s) (keep (λ l. eqb (l .i) p) ls)) (root-once (eqb p 0)))
 
   few : length (expandedAt t ls p) ≤ length (t .sets)
-  few = let h = no-longer once (upFrom 0 (length (t .sets))) (λ s i. in-up 0 (length (t .sets)) .1 (zero-le, (let k = state-inside (t .sets) s 1 (in-expanded s i .1) in omega arith))) in
+  few =
+      let h = no-longer once (upFrom 0 (length (t .sets)))
+      (λ s i. let k = state-inside (t .sets) s 1 (in-expanded s i .1) in in-up 0 (length (t .sets)) .1 (zero-le, omega arith)) in
       omega (arith, up-length 0 (length (t .sets)))
 
 nodes-grow : (a b : List Link) (p : ℕ) → ((l : Link) → In l a → In l b) → (u : ℕ) → In u (nodesAt a p) → In u (nodesAt b p)
@@ -62,7 +65,8 @@ module _ (t t′ : Table) (a b : List Link) (p u : ℕ) (reached : (s : ℕ) →
     (is : setAt (t′ .sets) u .state ≡ EXPANDED) where
   one-more-expanded : suc (length (expandedAt t a p)) ≤ length (expandedAt t′ b p)
   one-more-expanded = no-longer (one-more (λ i. let e = in-expanded t a p u i .1 in omega arith) (once t a p)) (expandedAt t′ b p)
-      (λ s i. ⊎-elim (λ e. subst (λ s. In s (expandedAt t′ b p)) (sym e) (of-expanded t′ b p u here is)) (λ i. stays s (in-expanded t a p s i)) (List·Memᴰ·cases-cons i))
+      (λ s i. ⊎-elim (λ e. subst (λ s. In s (expandedAt t′ b p)) (sym e) (of-expanded t′ b p u here is))
+      (λ i. stays s (in-expanded t a p s i)) (List·Memᴰ·cases-cons i))
     where
       stays : (s : ℕ) → In s (nodesAt a p) × (setAt (t .sets) s .state ≡ EXPANDED) → In s (expandedAt t′ b p)
       stays s (i, e) = of-expanded t′ b p s (nodes-grow a b p more s i) (ap (λ q. q .state) (𝓛 .same s (reached s i) e) ∙ e)

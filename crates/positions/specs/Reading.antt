@@ -3,10 +3,11 @@ use mathlib.Core.Path.{_≡_}
 use mathlib.Core.List.{List, [], _∷_}
 use Prim.Native.Nat.{ℕ, suc, _≤_}
 use Rattle.symbols.specs.declared.answer.Answer.{Answer}
-use Rattle.symbols.specs.Answer.{numberOf}
+use Rattle.symbols.specs.Answer.{ACCEPT, NO-SETS, numberOf}
 use Rattle.theory.specs.Table.{Table}
-use Rattle.theory.specs.Parse.{Link, Outcome, outcome}
+use Rattle.theory.specs.Parse.{Link, outcome}
 use Rattle.theory.specs.Steps.{Ready, Steps}
+use Rattle.theory.specs.Reaches.{Reaches}
 use Rattle.theory.specs.Answers.{Fits}
 use Rattle.theory.proofs.Grounded.{Grounded}
 use Rattle.table.specs.Layout.{Mem, setsIn, rulesIn, view}
@@ -14,7 +15,7 @@ use Rattle.table.specs.Laid.{Formed}
 use Rattle.table.specs.Becomes.{Becomes}
 use Rattle.links.specs.declared.Here.{Here}
 use Rattle.links.specs.declared.Counts.{Counts}
-use Rattle.links.specs.Records.{numbersFor, Graph, graph, linksOf}
+use Rattle.links.specs.Records.{numbersFor, Graph, graph, counts, linksIn, linksOf}
 use Rattle.links.specs.Held.{Held}
 use Rattle.saturation.specs.Ends.{next}
 use Rattle.positions.specs.declared.Verdict.{Verdict}
@@ -38,21 +39,18 @@ pub record Kept (m n : Mem) : Type 0 where
   pub sets : setsIn (n .rules) ≡ setsIn (m .rules)
   pub rules : rulesIn (n .rules) ≡ rulesIn (m .rules)
 
--- what the steps from the second place come to, the steps from the first come to
-abbrev pub Leads : ℕ → Table → ℕ → List Link → List ℕ → Table → ℕ → List Link → List ℕ → Type 0
-Leads pool t p ls w t′ p′ ls′ w′ = (o : Outcome) → Steps pool t′ p′ ls′ w′ o → Steps pool t p ls w o
-
 -- a position settled: saturated within the pool from the links `from`, with none of its sets unexpanded
 pub record Settles (h : Here) (m : Mem) (x : Graph) (n : Mem) (y : Graph) : Type 0 where
   pub kept : Kept m n
   pub stands : Stands h n y
   pub from : List Link
   pub ready : Ready (h .size) (view n) (h .position) from (linksOf y)
-  pub back : (w : List ℕ) → Leads (h .size) (view m) (h .position) (linksOf x) w (view n) (h .position) from w
+  pub reaches : (w : List ℕ) → Reaches (h .size) (view m) (h .position) (linksOf x) w (view n) (h .position) from w
 
 -- a refusal, whatever tokens are to come
 pub record Refuses (h : Here) (m : Mem) (x : Graph) (n : Mem) (a : ℕ) : Type 0 where
   pub kept : Kept m n
+  pub refusal : NO-SETS ≤ a
   pub steps : (w : List ℕ) → Steps (h .size) (view m) (h .position) (linksOf x) w (outcome a 0 (view n))
 
 -- what steps 1 and 2 came to
@@ -64,24 +62,36 @@ pub record SettlesOr (h : Here) (m : Mem) (x : Graph) (n : Mem) (b at : List ℕ
 pub record Advances (h : Here) (k : ℕ) (m : Mem) (x : Graph) (s : ℕ) (n : Mem) (y : Graph) : Type 0 where
   pub kept : Kept m n
   pub stands : Stands (next h s) n y
-  pub back : (w : List ℕ) → Leads (h .size) (view m) (h .position) (linksOf x) (k ∷ w) (view n) (suc (h .position)) (linksOf y) w
+  pub reaches : (w : List ℕ) → Reaches (h .size) (view m) (h .position) (linksOf x) (k ∷ w) (view n) (suc (h .position)) (linksOf y) w
 
--- the end of a parse with the tokens w to come
-pub record Finishes (h : Here) (w : List ℕ) (m : Mem) (x : Graph) (n : Mem) (v : Verdict) : Type 0 where
+-- What the buffer b holds where a line is accepted: the graph of its last position, which the steps from position p with the links ls
+-- and the tokens w to come have reached, and which the l links in b make ready
+pub record Holds (pool : ℕ) (t : Table) (p : ℕ) (ls : List Link) (w : List ℕ) (n : Mem) (b : List ℕ) (l : ℕ) : Type 0 where
+  pub last : Here
+  pub at : List ℕ
+  pub nodes : ℕ
+  pub stands : Stands last n (graph b at (counts nodes l 0))
+  pub from : List Link
+  pub reaches : Reaches pool t p ls w (view n) (last .position) from []
+  pub ready : Ready pool (view n) (last .position) from (linksIn b l)
+
+-- the end of a parse with the tokens w to come; b is the buffer that it leaves
+pub record Finishes (h : Here) (w : List ℕ) (m : Mem) (x : Graph) (n : Mem) (b : List ℕ) (v : Verdict) : Type 0 where
   pub kept : Kept m n
   pub steps : Steps (h .size) (view m) (h .position) (linksOf x) w (outcome (numberOf (v .answer)) (v .links) (view n))
+  pub accepted : numberOf (v .answer) ≡ ACCEPT → Holds (h .size) (view m) (h .position) (linksOf x) w n b (v .links)
 
 -- what the steps of a position before the last came to
 pub record AdvancesOr (h : Here) (k : ℕ) (m : Mem) (x : Graph) (n : Mem) (b at : List ℕ) (a : Advanced) : Type 0 where
   pub on : (s : ℕ) (c : Counts) → a ≡ On s c → Advances h k m x s n (graph b at c)
-  pub ends : (v : Verdict) → a ≡ Ends v → (w : List ℕ) → Finishes h (k ∷ w) m x n v
+  pub ends : (v : Verdict) → a ≡ Ends v → (w : List ℕ) → Finishes h (k ∷ w) m x n b v
 
 -- the same two of a settled position, whatever place it was settled from
 abbrev pub MovesOn : Here → ℕ → Mem → Graph → List ℕ → List ℕ → Advanced → Type 0
 MovesOn h k n y b at a = (m : Mem) (x : Graph) → Settles h m x n y → AdvancesOr h k m x n b at a
 
 abbrev pub Judges : Here → Mem → List ℕ → Counts → Verdict → Type 0
-Judges h n b c v = (m : Mem) (x : Graph) (at : List ℕ) → Settles h m x n (graph b at c) → Finishes h [] m x n v
+Judges h n b c v = (m : Mem) (x : Graph) (at : List ℕ) → Settles h m x n (graph b at c) → Finishes h [] m x n b v
 
 -- what reading a line asks for: a table in form, room for the pool's records, and a line that Parse's checks let pass
 pub record Readable (pool : ℕ) (line : List ℕ) (m : Mem) (room : ℕ) : Type 0 where
@@ -90,6 +100,7 @@ pub record Readable (pool : ℕ) (line : List ℕ) (m : Mem) (room : ℕ) : Type
   pub fits : Fits pool line
 
 -- the whole line
-pub record Reads (pool : ℕ) (line : List ℕ) (m n : Mem) (v : Verdict) : Type 0 where
+pub record Reads (pool : ℕ) (line : List ℕ) (m n : Mem) (b : List ℕ) (v : Verdict) : Type 0 where
   pub kept : Kept m n
   pub steps : Steps pool (view m) 0 [] line (outcome (numberOf (v .answer)) (v .links) (view n))
+  pub accepted : numberOf (v .answer) ≡ ACCEPT → Holds pool (view m) 0 [] line n b (v .links)

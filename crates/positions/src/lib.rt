@@ -4,9 +4,9 @@
 // its token is shifted, or at the end of the line the accept mark looked for.
 //
 // `buf` is the pool's part of the link buffer, `at` and `work` are the work numbers of `links` and `levels`. Each function hands the
-// counts of nodes and links on by value. What each promises is said by the steps of theory/specs/Steps.antt: whatever the steps from
-// the place that is left come to, the steps from the place that was entered come to. So `read` has, in the end, 01's steps from the
-// first position to the verdict.
+// counts of nodes and links on by value. What each promises is said by the steps of theory/specs/Steps.antt: from the place that was
+// entered they reach the place that is left (theory/specs/Reaches.antt), or end. So `read` has, in the end, 01's steps from the first
+// position to the verdict; and where that is accept, the graph of links is what the buffer holds (`holds-graph`).
 ghost use mathlib.Core.List.{[]};
 ghost use mathlib.Core.Path.{_≡_};
 ghost use Prim.Native.Nat.{_≤_, _<_};
@@ -36,7 +36,7 @@ pub enum Advanced {
     Ends(Verdict),
 }
 
-// Reads the line, position by position.
+// Reads the line, position by position. On accept the buffer is left with the graph of the whole line.
 pub fn read(
     rules: &mut [u8],
     cells: &mut [u8],
@@ -50,7 +50,7 @@ pub fn read(
     requires { ⌜ Readable size (now line) (mem (now rules) (now cells) (now words)) (length (now buf)) ⌝ }
     requires { ⌜ (length (now at) ≡ 256) × (length (now work) ≡ 12291) ⌝ }
     ensures { λ v. ⌜ Reads size (now (line .entry)) (mem (now (rules .entry)) (now (cells .entry)) (now (words .entry)))
-        (mem (now (rules .exit)) (now (cells .exit)) (now (words .exit))) v ⌝ }
+        (mem (now (rules .exit)) (now (cells .exit)) (now (words .exit))) (now (buf .exit)) v ⌝ }
 {
     let sets = table::sets_in(rules);
     let mut c = links::begin(buf, at, size, sets);
@@ -106,8 +106,9 @@ fn advance(
 ) -> Advanced
     requires { ⌜ Stands here (mem (now rules) (now cells) (now words)) (graph (now buf) (now at) c) × (length (now work) ≡ 12291) ⌝ }
     requires { ⌜ (here .position < 255) × ((1 ≤ token) × (token < 128)) ⌝ }
-    ensures { λ r. ⌜ AdvancesOr here token (mem (now (rules .entry)) (now (cells .entry)) (now (words .entry))) (graph (now (buf .entry)) (now (at .entry)) c)
-        (mem (now (rules .exit)) (now (cells .exit)) (now (words .exit))) (now (buf .exit)) (now (at .exit)) r ⌝ }
+    ensures { λ r. ⌜ AdvancesOr here token (mem (now (rules .entry)) (now (cells .entry)) (now (words .entry)))
+        (graph (now (buf .entry)) (now (at .entry)) c) (mem (now (rules .exit)) (now (cells .exit)) (now (words .exit)))
+        (now (buf .exit)) (now (at .exit)) r ⌝ }
 {
     let s = settle(rules, cells, words, buf, at, work, c, here);
     match s {
@@ -129,8 +130,8 @@ fn move_on(
 ) -> Advanced
     requires { ⌜ Stands here (mem (now rules) (now cells) (now words)) (graph (now buf) (now at) c) ⌝ }
     requires { ⌜ (here .position < 255) × ((1 ≤ token) × (token < 128)) ⌝ }
-    ensures { λ r. ⌜ MovesOn here token (mem (now (rules .entry)) (now (cells .entry)) (now (words .entry))) (graph (now (buf .entry)) (now (at .entry)) c)
-        (now (buf .exit)) (now (at .exit)) r ⌝ }
+    ensures { λ r. ⌜ MovesOn here token (mem (now (rules .entry)) (now (cells .entry)) (now (words .entry)))
+        (graph (now (buf .entry)) (now (at .entry)) c) (now (buf .exit)) (now (at .exit)) r ⌝ }
 {
     let d = saturation::shift(buf, at, rules, cells, words, c, here, token);
     if d.over != 0 {
@@ -160,8 +161,9 @@ fn finish(
     here: Here,
 ) -> Verdict
     requires { ⌜ Stands here (mem (now rules) (now cells) (now words)) (graph (now buf) (now at) c) × (length (now work) ≡ 12291) ⌝ }
-    ensures { λ v. ⌜ Finishes here [] (mem (now (rules .entry)) (now (cells .entry)) (now (words .entry))) (graph (now (buf .entry)) (now (at .entry)) c)
-        (mem (now (rules .exit)) (now (cells .exit)) (now (words .exit))) v ⌝ }
+    ensures { λ v. ⌜ Finishes here [] (mem (now (rules .entry)) (now (cells .entry)) (now (words .entry)))
+        (graph (now (buf .entry)) (now (at .entry)) c) (mem (now (rules .exit)) (now (cells .exit)) (now (words .exit)))
+        (now (buf .exit)) v ⌝ }
 {
     let s = settle(rules, cells, words, buf, at, work, c, here);
     match s {

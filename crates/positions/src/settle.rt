@@ -28,8 +28,9 @@ pub fn settle(
     here: Here,
 ) -> Settled
     requires { ⌜ Stands here (mem (now rules) (now cells) (now words)) (graph (now buf) (now at) c) × (length (now work) ≡ 12291) ⌝ }
-    ensures { λ r. ⌜ SettlesOr here (mem (now (rules .entry)) (now (cells .entry)) (now (words .entry))) (graph (now (buf .entry)) (now (at .entry)) c)
-        (mem (now (rules .exit)) (now (cells .exit)) (now (words .exit))) (now (buf .exit)) (now (at .exit)) r ⌝ }
+    ensures { λ r. ⌜ SettlesOr here (mem (now (rules .entry)) (now (cells .entry)) (now (words .entry)))
+        (graph (now (buf .entry)) (now (at .entry)) c) (mem (now (rules .exit)) (now (cells .exit)) (now (words .exit)))
+        (now (buf .exit)) (now (at .exit)) r ⌝ }
 {
     let mut d = c;
     loop {

@@ -34,9 +34,13 @@ past-or-not a = elim (ℕ-discrete a 1) [
 
 one-cleared : {n : ℕ} {b c c′ : List ℕ} → Cleared n b c → Cleared n b c′ → length c ≡ length c′ → c ≡ c′
 one-cleared {n} {c = c} {c′} z z′ l =
-    ext-getD 0 c c′ l (λ i k. elim (decLt i n) [ yes h ↦ z .low i h ∙ sym (z′ .low i h) | no h ↦ z .high i (omega arith) ∙ sym (z′ .high i (omega arith)) ])
+    ext-getD 0 c c′ l (λ i k. elim (decLt i n) [
+      | yes h ↦ z .low i h ∙ sym (z′ .low i h)
+      | no h ↦ z .high i (omega arith) ∙ sym (z′ .high i (omega arith))
+    ])
 
-pub one-outcome : {pool : ℕ} {line : List ℕ} {m n n′ : Mem} {b c c′ : List ℕ} {v v′ : Verdict} → Parses pool line m n b c v → Parses pool line m n′ b c′ v′
+pub one-outcome : {pool : ℕ} {line : List ℕ} {m n n′ : Mem} {b c c′ : List ℕ} {v v′ : Verdict}
+    → Parses pool line m n b c v → Parses pool line m n′ b c′ v′
     → SameLengths n n′ → length c ≡ length c′ → (n ≡ n′) × (c ≡ c′) × (v ≡ v′)
 one-outcome {v = v} {v′} p q l k =
     let (en, ea, ek) = form.one-outcome (p .promised) (q .promised) l in

@@ -8,7 +8,7 @@ use native.Mathlib.Omega.{arith}
 use borrow.Author.Tests.{leb-true, leb-false}
 use lib.Dec.{T, leb, leb→le, le→leb}
 use lib.ListN.{length, getD, take, drop}
-use lib.Seq.{length-take-le, getD-append-add, getD-drop}
+use lib.Seq.{length-take-le, take-at, drop-at, getD-drop}
 use Rattle.laws.specs.Choice.{Tells}
 use Rattle.laws.proofs.Choice.{when-cases}
 use Rattle.symbols.specs.declared.answer.Answer.{Answer}
@@ -34,11 +34,41 @@ use Rattle.positions.specs.Reading.{Readable, Reads}
 use Rattle.positions.proofs.Kept.{kept-none}
 use Rattle.recogniser.specs.declared.refusals.Checked.the-variants.{Passed, Refused}
 use Rattle.recogniser.specs.Parse.{lentParse, Past, Parses}
+use Rattle.recogniser.specs.Reading.{ReadsOver}
 use Rattle.recogniser.specs.Check.{PoolFits, Refusal, Checks}
 use Rattle.recogniser.specs.Check.Refusal.{bad-table, bad-pool, long-line, bad-token}
 
 between : {a : ℕ} → Past a → 2 < a → a < 20 → ⊥
 between q h k = ⊎-elim (λ e. omega arith) (⊎-elim (λ e. omega arith) (⊎-elim (λ e. omega arith) (λ e. omega arith))) q
+
+-- ---- the pool's part of the link buffer: lent, given back, cleared
+
+pub part-length : (n : ℕ) (b : List ℕ) → n ≤ length b → n ≡ length (take n b)
+part-length n b h = sym (length-take-le n b h)
+
+pub part-roomy : (n : ℕ) (b : List ℕ) → n ≤ length b → n ≤ length (take n b)
+part-roomy n b h = omega (arith, part-length n b h)
+
+-- given back as the list y
+pub part-read : {pool : ℕ} {line : List ℕ} {m n : Mem} {b : List ℕ} {v : Verdict} (y : List ℕ) → numbersFor pool ≤ length b
+    → length y ≡ length (take (numbersFor pool) b) → Reads pool line m n y v → ReadsOver pool line m n b (y ++ drop (numbersFor pool) b) v
+part-read {pool} {line} {m} {n} {b} {v} y r l s = record {
+  reads = subst (λ y. Reads pool line m n y v) (sym (take-at y _ _ whole)) s;
+  beyond = drop-at y _ _ whole;
+}
+  where
+    whole : length y ≡ numbersFor pool
+    whole = l ∙ length-take-le (numbersFor pool) b r
+
+-- what is cleared since a change within the part is cleared since before it
+cleared-since : {n : ℕ} {b c d : List ℕ} → drop n c ≡ drop n b → Cleared n c d → Cleared n b d
+cleared-since {n} {b} {c} e z = record { low = z .low; high = λ i h. z .high i h ∙ same i h }
+  where
+    same : (i : ℕ) → n ≤ i → getD c i 0 ≡ getD b i 0
+    same i h =
+        let k : n + (i - n) ≡ i = omega arith in
+        subst (λ i. getD c i 0 ≡ getD b i 0) k
+        (sym (getD-drop n c (i - n) 0) ∙ ap (λ l. getD l (i - n) 0) e ∙ getD-drop n b (i - n) 0)
 
 -- ---- each result of the checks is one of those that the contract names
 
@@ -132,9 +162,9 @@ module _ (m : Mem) (pool : ℕ) (line b : List ℕ) where
 
   -- ---- a parse that got past its checks
 
-  module _ (R : Readable pool line m (length b)) {n : Mem} {v : Verdict} (S : Reads pool line m n v) where
+  module _ (R : Readable pool line m (length b)) {n : Mem} {c : List ℕ} {v : Verdict} (S : ReadsOver pool line m n b c v) where
     is : parse t pool line ≡ outcome (numberOf (v .answer)) (v .links) (view n)
-    is = outcome-of-steps t (R .formed .form) pool line (R .fits) _ .1 (S .steps)
+    is = outcome-of-steps t (R .formed .form) pool line (R .fits) _ .1 (S .reads .steps)
 
     lent : lentParse b pool line t ≡ outcome (numberOf (v .answer)) (v .links) (view n)
     lent = roomy (R .roomy) ∙ is
@@ -147,32 +177,14 @@ module _ (m : Mem) (pool : ℕ) (line b : List ℕ) where
         go (verdict-given a z) = ⊎-elim inl (λ e. inr (inl e)) a
         go (no-room a z) = ⊎-elim (λ e. inr (inr (inl e))) (λ e. inr (inr (inr e))) a
 
-    pub parses-read : {c : List ℕ} → Cleared (numbersFor pool) b c → Parses pool line m n b c v
+    pub parses-read : {d : List ℕ} → Cleared (numbersFor pool) c d → Parses pool line m n b d v
     parses-read z = record {
       promised = record {
         answer = λ 𝓕. ap (λ o. o .answer) (sym lent);
         number = λ 𝓕. ap (λ o. o .number) (sym lent);
-        table = λ 𝓕. subst (λ o. Becomes m n (o .table)) (sym lent) (S .kept .becomes);
+        table = λ 𝓕. subst (λ o. Becomes m n (o .table)) (sym lent) (S .reads .kept .becomes);
         no-table = λ d. absurd (d (R .formed));
       };
-      cleared = λ q. z;
+      cleared = λ q. cleared-since (S .beyond) z;
       untouched = λ d. absurd (d past);
     }
-
--- ---- the pool's part lent and given back
-
-pub part-length : (n : ℕ) (b : List ℕ) → n ≤ length b → n ≡ length (take n b)
-part-length n b h = sym (length-take-le n b h)
-
-pub part-roomy : (n : ℕ) (b : List ℕ) → n ≤ length b → n ≤ length (take n b)
-part-roomy n b h = omega (arith, part-length n b h)
-
-pub part-cleared : {n : ℕ} {b c : List ℕ} (y : List ℕ) → n ≤ length b → length y ≡ length (take n b) → Cleared n (y ++ drop n b) c
-    → Cleared n b c
-part-cleared {n} {b} y r l z = record { low = z .low; high = λ i h. z .high i h ∙ same i h }
-  where
-    same : (i : ℕ) → n ≤ i → getD (y ++ drop n b) i 0 ≡ getD b i 0
-    same i h =
-        let e : i ≡ length y + (i - n) = omega (arith, part-length n b r) in
-        let f : n + (i - n) ≡ i = omega arith in
-        ap (λ k. getD (y ++ drop n b) k 0) e ∙ getD-append-add y (drop n b) (i - n) 0 ∙ getD-drop n b (i - n) 0 ∙ ap (λ k. getD b k 0) f

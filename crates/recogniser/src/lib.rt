@@ -14,14 +14,17 @@
 // same line may succeed when it comes again with more room. Every number that lies beyond the pools, of the table or of the
 // buffer, is left as it was; the pool's part of the buffer is all zero after every parse that got past its checks.
 //
-// refusals.rt has the checks; the crate `positions` goes through the line. What `parse` promises stands in specs/Parse.antt, and what
-// that says of lines and grammars in the crate `demands`.
+// A parse is its checks, the reading and the clearing: refusals.rt has the checks, `read` has the crate `positions` go through the
+// line and leaves the graph of links in the buffer, `clear` makes that part of it zero. What `parse` promises stands in
+// specs/Parse.antt, and what that says of lines and grammars in the crate `demands`.
+ghost use Prim.Native.Nat.{_≤_};
 ghost use lib.ListN.{length};
 ghost use Rattle.table.specs.Layout.{mem};
 ghost use Rattle.links.specs.Records.{numbersFor};
 ghost use Rattle.links.specs.Held.{Cleared};
-ghost use Rattle.positions.specs.Reading.{Readable, Reads};
+ghost use Rattle.positions.specs.Reading.{Readable};
 ghost use Rattle.recogniser.specs.Parse.{Parses};
+ghost use Rattle.recogniser.specs.Reading.{ReadsOver};
 use positions::Verdict;
 use refusals::Checked;
 
@@ -42,13 +45,17 @@ pub fn parse(
     let c = refusals::check(rules, cells, words, links.len(), pool, line);
     match c {
         Checked::Refused(answer) => Verdict { answer, links: 0 },
-        Checked::Passed => run(rules, cells, words, links, pool, line),
+        Checked::Passed => {
+            let v = read(rules, cells, words, links, pool, line);
+            clear(links, pool);
+            v
+        }
     }
 }
 
-// Reads a line that passed the checks, over the pool's part of the link buffer, and leaves that part zero. Here stand the work
-// numbers: 512 bytes for the map of `links`, 24,582 for the lists of `levels`.
-fn run(
+// Reads a line that passed the checks, over the pool's part of the link buffer, and leaves the graph of links there. Here stand the
+// work numbers: 512 bytes for the map of `links`, 24,582 for the lists of `levels`.
+pub fn read(
     rules: &mut [u8],
     cells: &mut [u8],
     words: &mut [u64],
@@ -57,14 +64,13 @@ fn run(
     line: &[u8],
 ) -> Verdict
     requires { ⌜ Readable pool (now line) (mem (now rules) (now cells) (now words)) (length (now links)) ⌝ }
-    ensures { λ v. ⌜ Reads pool (now (line .entry)) (mem (now (rules .entry)) (now (cells .entry)) (now (words .entry)))
-        (mem (now (rules .exit)) (now (cells .exit)) (now (words .exit))) v
-        × Cleared (numbersFor pool) (now (links .entry)) (now (links .exit)) ⌝ }
+    ensures { λ v. ⌜ ReadsOver pool (now (line .entry)) (mem (now (rules .entry)) (now (cells .entry)) (now (words .entry)))
+        (mem (now (rules .exit)) (now (cells .exit)) (now (words .exit))) (now (links .entry)) (now (links .exit)) v ⌝ }
 {
     let n = (pool + 1) * links::RECORD;
     let mut at: [u16; 256] = [0; 256];
     let mut work: [u16; levels::WORK] = [0; levels::WORK];
-    let v = positions::read(
+    positions::read(
         rules,
         cells,
         words,
@@ -73,7 +79,13 @@ fn run(
         &mut work,
         line,
         pool,
-    );
-    links::clear(links, n);
-    v
+    )
+}
+
+// Leaves the pool's part of the link buffer zero.
+pub fn clear(links: &mut [u16], pool: usize)
+    requires { ⌜ numbersFor pool ≤ length (now links) ⌝ }
+    ensures { λ _. ⌜ Cleared (numbersFor pool) (now (links .entry)) (now (links .exit)) ⌝ }
+{
+    links::clear(links, (pool + 1) * links::RECORD);
 }

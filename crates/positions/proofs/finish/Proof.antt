@@ -1,11 +1,14 @@
 -- `positions::finish` meets its contract. Assumes nothing.
+use Rattle.laws.proofs.Places.{the}
 use Rattle.positions.proofs.Ends.{refuses}
 use borrow.Author.Needs.{needs}
 use Rattle.positions.proofs.finish.Statement.{statement}
 use Rattle.positions.proofs.finish.Tie as tie
 
 settle-requires : tie.Need-settle-requires
-settle-requires c κs = c .before .before .before .before .before .before .before .before .before .before .before .before .pre
+settle-requires c κs =
+    let start : tie.Start = search in
+    start .pre
 
 enum-known-s : tie.Need-enum-known-s
 enum-known-s c = search needs
@@ -14,7 +17,11 @@ enum-known-s-2 : tie.Need-enum-known-s-2
 enum-known-s-2 c = search needs
 
 judge-requires : tie.Need-judge-requires
-judge-requires c κs = let now = c .before .before .before .before .before .before .before .before .before .before .before .before .before .before .before .before .before .before .before .settle .ensures .ready _ (c .before .before .before .before .before .s2 .given .1) .stands in ((_, now .held), (now .formed, now .sets))
+judge-requires c κs =
+    let settle = the tie.After-settle (search) .settle in
+    let s2 = the tie.After-s2 (search) .s2 in
+    let now = settle .ensures .ready _ (s2 .given .1) .stands in
+    ((_, now .held), (now .formed, now .sets))
 
 same-length : tie.Need-same-length
 same-length c = search needs
@@ -35,7 +42,9 @@ same-length-6 : tie.Need-same-length-6
 same-length-6 c = search needs
 
 returns : tie.Need-returns
-returns c = refuses _ (c .before .before .before .before .before .before .before .before .before .before .before .before .before .before .before .settle .ensures .refused _ (c .before .s .given .1)) _
+returns c =
+    let settle = the tie.After-settle (search) .settle in
+    refuses _ (settle .ensures .refused _ (c .before .s .given .1)) _
 
 same-length-7 : tie.Need-same-length-7
 same-length-7 c = search needs
@@ -56,7 +65,10 @@ same-length-12 : tie.Need-same-length-12
 same-length-12 c = search needs
 
 returns-2 : tie.Need-returns-2
-returns-2 c = c .judge .ensures _ _ _ (c .before .before .before .before .before .before .before .before .before .before .before .before .before .before .before .before .before .before .before .before .settle .ensures .ready _ (c .before .before .before .before .before .before .s2 .given .1))
+returns-2 c =
+    let settle = the tie.After-settle (search) .settle in
+    let s2 = the tie.After-s2 (search) .s2 in
+    c .judge .ensures _ _ _ (settle .ensures .ready _ (s2 .given .1))
 
 pub finish-spec : {M : Type 1} → statement M
 finish-spec =

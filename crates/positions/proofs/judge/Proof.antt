@@ -5,7 +5,9 @@ use Rattle.positions.proofs.judge.Statement.{statement}
 use Rattle.positions.proofs.judge.Tie as tie
 
 accepts-requires : tie.Need-accepts-requires
-accepts-requires c κs = c .before .before .before .before .pre
+accepts-requires c κs =
+    let start : tie.Start = search in
+    start .pre
 
 returns : tie.Need-returns
 returns c = λ m x at S. ends-accepted S (tells-yes (c .before .accepts .result) (c .before .accepts .ensures) (c .if1 .taken))

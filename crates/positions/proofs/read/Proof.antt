@@ -1,9 +1,10 @@
--- `positions::read` meets its contract. The invariant: the steps from position p lead to the outcome of the steps from the first (`At`).
+-- `positions::read` meets its contract. The invariant: the steps from the first position reach position p (`At`).
 -- The measure is what is left of the line. Assumes nothing.
 use mathlib.Core.Path.{_≡_, refl}
 use Prim.Native.Nat.{_-_}
 use native.Mathlib.Omega.{arith}
 use lib.ListN.{length}
+use Rattle.laws.proofs.Places.{the}
 use Rattle.table.specs.Layout.{mem}
 use Rattle.links.specs.Records.{graph}
 use Rattle.positions.proofs.Positions.{At, at-start, at-next, at-end, at-last, token-fits}
@@ -22,22 +23,45 @@ abbrev μ-loop : tie.MeasureT-loop
     length line - p
 
 sets-in-requires : tie.Need-sets-in-requires Inv-loop μ-loop
-sets-in-requires c κs = omega (arith, c .before .before .before .before .before .before .before .before .pre .0 .formed .laid .sized .rules)
+sets-in-requires c κs =
+    let start : tie.Start Inv-loop μ-loop = search in
+    omega (arith, start .pre .0 .formed .laid .sized .rules)
 
 begin-requires : tie.Need-begin-requires Inv-loop μ-loop
-begin-requires c κs = let given = c .before .before .before .before .before .before .before .before .before .before .before .pre .0 in let sized = given .formed .laid .sized in ((given .roomy, (given .fits .links, c .before .before .before .before .before .before .before .before .before .before .before .pre .1 .0)), (omega (arith, c .before .before .sets-in .ensures, sized .some-sets), omega (arith, c .before .before .sets-in .ensures, sized .few-sets)))
+begin-requires c κs =
+    let start : tie.Start Inv-loop μ-loop = search in
+    let sets-in = the (tie.After-sets-in Inv-loop μ-loop) (search) .sets-in in
+    let given = start .pre .0 in
+    let sized = given .formed .laid .sized in (
+      (given .roomy, (given .fits .links, start .pre .1 .0)),
+      (omega (arith, sets-in .ensures, sized .some-sets), omega (arith, sets-in .ensures, sized .few-sets)),
+    )
 
 loop-holds : tie.Need-loop-holds Inv-loop μ-loop
-loop-holds c = ((refl, refl, refl, refl, refl, refl), at-start (c .before .before .before .before .before .before .before .before .before .before .before .before .before .before .before .before .pre .0 .formed) (c .before .before .before .before .before .before .before .sets-in .ensures) (c .before .before .before .before .begin .ensures))
+loop-holds c =
+    let start : tie.Start Inv-loop μ-loop = search in
+    let sets-in = the (tie.After-sets-in Inv-loop μ-loop) (search) .sets-in in
+    let begin = the (tie.After-begin Inv-loop μ-loop) (search) .begin in
+    ((refl, refl, refl, refl, refl, refl), at-start (start .pre .0 .formed) (sets-in .ensures) (begin .ensures))
 
 shared-slice-read-advance : tie.Need-shared-slice-read-advance Inv-loop μ-loop
 shared-slice-read-advance c = search needs
 
 cast-advance : tie.Need-cast-advance Inv-loop μ-loop
-cast-advance c = omega (arith, c .shared-slice-known2 .given (c .before .before .before .before .before .before .before .before .loop .p))
+cast-advance c =
+    let loop = the (tie.At-loop Inv-loop μ-loop) (search) .loop in
+    omega (arith, c .shared-slice-known2 .given (loop .p))
 
 advance-requires : tie.Need-advance-requires Inv-loop μ-loop
-advance-requires c κs = let fits = c .before .before .before .before .before .before .before .before .before .before .before .before .before .before .before .before .before .before .before .before .before .before .before .before .before .pre .0 .fits in let k = token-fits _ (fits .tokens) _ (c .before .before .before .before .before .before .before .loop-test .taken) in ((c .before .before .before .before .before .before .before .before .loop .inv .1 .stands, omega (arith, c .before .before .before .before .before .before .before .before .loop .inv .0 .5, c .before .before .before .before .before .before .before .before .before .before .before .before .before .before .before .before .before .before .before .before .before .before .before .before .before .pre .1 .1)), (omega (arith, c .before .before .before .before .before .before .before .loop-test .taken, fits .short), (k .0, omega arith)))
+advance-requires c κs =
+    let start : tie.Start Inv-loop μ-loop = search in
+    let loop = the (tie.At-loop Inv-loop μ-loop) (search) .loop in
+    let loop-test = the (tie.In-loop Inv-loop μ-loop) (search) .loop-test in
+    let fits = start .pre .0 .fits in
+    let k = token-fits _ (fits .tokens) _ (loop-test .taken) in (
+      (loop .inv .1 .stands, omega (arith, loop .inv .0 .5, start .pre .1 .1)),
+      (omega (arith, loop-test .taken, fits .short), (k .0, omega arith)),
+    )
 
 enum-known-a : tie.Need-enum-known-a Inv-loop μ-loop
 enum-known-a c = search needs
@@ -46,25 +70,41 @@ enum-known-a-2 : tie.Need-enum-known-a-2 Inv-loop μ-loop
 enum-known-a-2 c = search needs
 
 same-length : tie.Need-same-length Inv-loop μ-loop
-same-length c = omega (arith, c .before .before .before .before .before .before .before .before .before .before .before .before .before .before .before .before .before .before .before .before .before .before .before .before .loop .inv .0 .0)
+same-length c =
+    let loop = the (tie.At-loop Inv-loop μ-loop) (search) .loop in
+    omega (arith, loop .inv .0 .0)
 
 same-length-2 : tie.Need-same-length-2 Inv-loop μ-loop
-same-length-2 c = omega (arith, c .before .before .before .before .before .before .before .before .before .before .before .before .before .before .before .before .before .before .before .before .before .before .before .before .loop .inv .0 .1)
+same-length-2 c =
+    let loop = the (tie.At-loop Inv-loop μ-loop) (search) .loop in
+    omega (arith, loop .inv .0 .1)
 
 same-length-3 : tie.Need-same-length-3 Inv-loop μ-loop
-same-length-3 c = omega (arith, c .before .before .before .before .before .before .before .before .before .before .before .before .before .before .before .before .before .before .before .before .before .before .before .before .loop .inv .0 .2)
+same-length-3 c =
+    let loop = the (tie.At-loop Inv-loop μ-loop) (search) .loop in
+    omega (arith, loop .inv .0 .2)
 
 same-length-4 : tie.Need-same-length-4 Inv-loop μ-loop
-same-length-4 c = omega (arith, c .before .before .before .before .before .before .before .before .before .before .before .before .before .before .before .before .before .before .before .before .before .before .before .before .loop .inv .0 .3)
+same-length-4 c =
+    let loop = the (tie.At-loop Inv-loop μ-loop) (search) .loop in
+    omega (arith, loop .inv .0 .3)
 
 same-length-5 : tie.Need-same-length-5 Inv-loop μ-loop
-same-length-5 c = omega (arith, c .before .before .before .before .before .before .before .before .before .before .before .before .before .before .before .before .before .before .before .before .before .before .before .before .loop .inv .0 .4)
+same-length-5 c =
+    let loop = the (tie.At-loop Inv-loop μ-loop) (search) .loop in
+    omega (arith, loop .inv .0 .4)
 
 same-length-6 : tie.Need-same-length-6 Inv-loop μ-loop
-same-length-6 c = omega (arith, c .before .before .before .before .before .before .before .before .before .before .before .before .before .before .before .before .before .before .before .before .before .before .before .before .loop .inv .0 .5)
+same-length-6 c =
+    let loop = the (tie.At-loop Inv-loop μ-loop) (search) .loop in
+    omega (arith, loop .inv .0 .5)
 
 returns : tie.Need-returns Inv-loop μ-loop
-returns c = at-end (c .before .before .before .before .before .before .before .before .before .before .before .before .before .before .before .before .before .before .before .before .before .before .before .before .loop .inv .1) (c .before .before .before .before .before .before .before .before .before .before .before .before .before .before .before .before .before .before .before .before .before .before .before .loop-test .taken) (c .before .before .before .before .before .before .before .before .before .before .before .before .before .before .before .advance .ensures .ends _ (c .before .a2 .given .1))
+returns c =
+    let loop = the (tie.At-loop Inv-loop μ-loop) (search) .loop in
+    let loop-test = the (tie.In-loop Inv-loop μ-loop) (search) .loop-test in
+    let advance = the (tie.After-advance Inv-loop μ-loop) (search) .advance in
+    at-end (loop .inv .1) (loop-test .taken) (advance .ensures .ends _ (c .before .a2 .given .1))
 
 add-p : tie.Need-add-p Inv-loop μ-loop
 add-p c = search needs
@@ -73,31 +113,63 @@ loop-less : tie.Need-loop-less Inv-loop μ-loop
 loop-less c = search needs
 
 loop-again : tie.Need-loop-again Inv-loop μ-loop
-loop-again c = (let same = c .before .before .before .before .before .before .before .before .before .before .before .before .before .before .before .before .before .before .before .before .before .before .before .before .loop .inv .0 in (omega (arith, same .0), omega (arith, same .1), omega (arith, same .2), omega (arith, same .3), omega (arith, same .4), omega (arith, same .5)), at-next (c .before .before .before .before .before .before .before .before .before .before .before .before .before .before .before .before .before .before .before .before .before .before .before .before .loop .inv .1) (c .before .before .before .before .before .before .before .before .before .before .before .before .before .before .before .before .before .before .before .before .before .before .before .loop-test .taken) (c .before .before .before .before .before .before .before .before .before .before .before .before .before .before .before .advance .ensures .on _ _ (c .before .a .given .1)))
+loop-again c =
+    let loop = the (tie.At-loop Inv-loop μ-loop) (search) .loop in
+    let loop-test = the (tie.In-loop Inv-loop μ-loop) (search) .loop-test in
+    let advance = the (tie.After-advance Inv-loop μ-loop) (search) .advance in (
+      let same = loop .inv .0 in (
+        omega (arith, same .0),
+        omega (arith, same .1),
+        omega (arith, same .2),
+        omega (arith, same .3),
+        omega (arith, same .4),
+        omega (arith, same .5),
+      ),
+      at-next (loop .inv .1) (loop-test .taken) (advance .ensures .on _ _ (c .before .a .given .1)),
+    )
 
 finish-requires : tie.Need-finish-requires Inv-loop μ-loop
-finish-requires c κs = (c .before .before .before .before .before .before .before .loop .inv .1 .stands, omega (arith, c .before .before .before .before .before .before .before .loop .inv .0 .5, c .before .before .before .before .before .before .before .before .before .before .before .before .before .before .before .before .before .before .before .before .before .before .before .before .pre .1 .1))
+finish-requires c κs =
+    let start : tie.Start Inv-loop μ-loop = search in
+    let loop = the (tie.At-loop Inv-loop μ-loop) (search) .loop in
+    (loop .inv .1 .stands, omega (arith, loop .inv .0 .5, start .pre .1 .1))
 
 same-length-7 : tie.Need-same-length-7 Inv-loop μ-loop
-same-length-7 c = omega (arith, c .before .before .before .before .before .before .before .before .before .before .before .before .before .before .before .before .before .before .before .before .loop .inv .0 .0)
+same-length-7 c =
+    let loop = the (tie.At-loop Inv-loop μ-loop) (search) .loop in
+    omega (arith, loop .inv .0 .0)
 
 same-length-8 : tie.Need-same-length-8 Inv-loop μ-loop
-same-length-8 c = omega (arith, c .before .before .before .before .before .before .before .before .before .before .before .before .before .before .before .before .before .before .before .before .loop .inv .0 .1)
+same-length-8 c =
+    let loop = the (tie.At-loop Inv-loop μ-loop) (search) .loop in
+    omega (arith, loop .inv .0 .1)
 
 same-length-9 : tie.Need-same-length-9 Inv-loop μ-loop
-same-length-9 c = omega (arith, c .before .before .before .before .before .before .before .before .before .before .before .before .before .before .before .before .before .before .before .before .loop .inv .0 .2)
+same-length-9 c =
+    let loop = the (tie.At-loop Inv-loop μ-loop) (search) .loop in
+    omega (arith, loop .inv .0 .2)
 
 same-length-10 : tie.Need-same-length-10 Inv-loop μ-loop
-same-length-10 c = omega (arith, c .before .before .before .before .before .before .before .before .before .before .before .before .before .before .before .before .before .before .before .before .loop .inv .0 .3)
+same-length-10 c =
+    let loop = the (tie.At-loop Inv-loop μ-loop) (search) .loop in
+    omega (arith, loop .inv .0 .3)
 
 same-length-11 : tie.Need-same-length-11 Inv-loop μ-loop
-same-length-11 c = omega (arith, c .before .before .before .before .before .before .before .before .before .before .before .before .before .before .before .before .before .before .before .before .loop .inv .0 .4)
+same-length-11 c =
+    let loop = the (tie.At-loop Inv-loop μ-loop) (search) .loop in
+    omega (arith, loop .inv .0 .4)
 
 same-length-12 : tie.Need-same-length-12 Inv-loop μ-loop
-same-length-12 c = omega (arith, c .before .before .before .before .before .before .before .before .before .before .before .before .before .before .before .before .before .before .before .before .loop .inv .0 .5)
+same-length-12 c =
+    let loop = the (tie.At-loop Inv-loop μ-loop) (search) .loop in
+    omega (arith, loop .inv .0 .5)
 
 returns-2 : tie.Need-returns-2 Inv-loop μ-loop
-returns-2 c = at-last (c .before .before .before .before .before .before .before .before .before .before .before .before .before .before .before .before .before .before .before .before .loop .inv .1) (let l = c .before .before .before .before .before .before .before .before .before .before .before .before .before .before .before .before .before .before .before .loop-test .left in omega arith) (c .before .before .before .before .before .before .before .before .before .before .before .before .finish .ensures)
+returns-2 c =
+    let loop = the (tie.At-loop Inv-loop μ-loop) (search) .loop in
+    let loop-test = the (tie.After-loop Inv-loop μ-loop) (search) .loop-test in
+    let finish = the (tie.After-finish Inv-loop μ-loop) (search) .finish in
+    at-last (loop .inv .1) (let l = loop-test .left in omega arith) (finish .ensures)
 
 pub read-spec : {M : Type 1} → statement M
 read-spec =

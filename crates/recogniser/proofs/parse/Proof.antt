@@ -1,4 +1,6 @@
 -- `recogniser::parse` meets its contract. Assumes nothing.
+use native.Mathlib.Omega.{arith}
+use Rattle.laws.proofs.Places.{the}
 use Rattle.recogniser.proofs.Promise.{parses-refused, parses-read}
 use borrow.Author.Needs.{needs}
 use Rattle.recogniser.proofs.parse.Statement.{statement}
@@ -13,8 +15,17 @@ enum-known-c c = search needs
 enum-told : tie.Need-enum-told
 enum-told c = search needs
 
-run-requires : tie.Need-run-requires
-run-requires c κs = c .before .before .before .before .before .before .check .ensures .passed (c .before .before .before .before .enum-told .given .1)
+read-requires : tie.Need-read-requires
+read-requires c κs =
+    let check = the tie.After-check (search) .check in
+    let enum-told = the tie.After-enum-told (search) .enum-told in
+    check .ensures .passed (enum-told .given .1)
+
+clear-requires : tie.Need-clear-requires
+clear-requires c κs =
+    let check = the tie.After-check (search) .check in
+    let enum-told = the tie.After-enum-told (search) .enum-told in
+    omega (arith, check .ensures .passed (enum-told .given .1) .roomy)
 
 same-length : tie.Need-same-length
 same-length c = search needs
@@ -26,7 +37,9 @@ same-length-3 : tie.Need-same-length-3
 same-length-3 c = search needs
 
 returns : tie.Need-returns
-returns c = parses-refused _ _ _ _ (c .before .before .before .check .ensures .refused _ (c .before .c .given .1))
+returns c =
+    let check = the tie.After-check (search) .check in
+    parses-refused _ _ _ _ (check .ensures .refused _ (c .before .c .given .1))
 
 same-length-4 : tie.Need-same-length-4
 same-length-4 c = search needs
@@ -41,7 +54,12 @@ same-length-7 : tie.Need-same-length-7
 same-length-7 c = search needs
 
 returns-2 : tie.Need-returns-2
-returns-2 c = parses-read _ _ _ _ (c .before .before .before .before .before .before .before .before .before .before .before .before .before .before .before .check .ensures .passed (c .before .before .before .before .before .before .before .before .before .before .before .before .before .enum-told .given .1)) (c .before .before .before .before .before .before .before .before .run .ensures .0) (c .before .before .before .before .before .before .before .before .run .ensures .1)
+returns-2 c =
+    let check = the tie.After-check (search) .check in
+    let enum-told = the tie.After-enum-told (search) .enum-told in
+    let read = the tie.After-read (search) .read in
+    let clear = the tie.After-clear (search) .clear in
+    parses-read _ _ _ _ (check .ensures .passed (enum-told .given .1)) (read .ensures) (clear .ensures)
 
 pub parse-spec : {M : Type 1} → statement M
 parse-spec =
@@ -50,7 +68,8 @@ parse-spec =
     check-requires
     enum-known-c
     enum-told
-    run-requires
+    read-requires
+    clear-requires
     same-length
     same-length-2
     same-length-3

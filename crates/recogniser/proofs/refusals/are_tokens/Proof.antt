@@ -4,6 +4,7 @@ use mathlib.Core.Path.{_≡_}
 use Prim.Native.Nat.{_≤_, _-_}
 use native.Mathlib.Omega.{arith}
 use lib.ListN.{length, getD}
+use Rattle.laws.proofs.Places.{the}
 use Rattle.laws.specs.Loops.{allBelow}
 use Rattle.laws.proofs.Loops.{all-none, all-end, all-fails, all-passes}
 use Rattle.symbols.specs.Symbol.{terminal}
@@ -29,7 +30,9 @@ is-terminal-requires c κs = search needs
 
 returns : tie.Need-returns Inv-loop μ-loop
 unfolding allTokens
-returns c = all-fails _ (c .before .before .before .loop-test .taken) (c .before .is-terminal .ensures) (c .if1 .taken)
+returns c =
+    let loop-test = the (tie.In-loop Inv-loop μ-loop) (search) .loop-test in
+    all-fails _ (loop-test .taken) (c .before .is-terminal .ensures) (c .if1 .taken)
 
 add-i : tie.Need-add-i Inv-loop μ-loop
 add-i c = search needs
@@ -38,7 +41,9 @@ loop-less : tie.Need-loop-less Inv-loop μ-loop
 loop-less c = search needs
 
 loop-again : tie.Need-loop-again Inv-loop μ-loop
-loop-again c = (omega arith, all-passes _ (c .before .before .before .before .loop .inv .1) (c .before .is-terminal .ensures) (c .if1 .left))
+loop-again c =
+    let loop = the (tie.At-loop Inv-loop μ-loop) (search) .loop in
+    (omega arith, all-passes _ (loop .inv .1) (c .before .is-terminal .ensures) (c .if1 .left))
 
 returns-2 : tie.Need-returns-2 Inv-loop μ-loop
 unfolding allTokens
