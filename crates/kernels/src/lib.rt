@@ -11,6 +11,7 @@
 // No function tests a place when it runs: its contract asks that the words be there. Nothing here knows which rules are
 // current, nor how long they are. A test's contract is an equation with a test of specs/, so that a caller's `if` has that
 // test true or false; proofs/ says what it means (`same_iff`, `within_iff`, `empty_iff`).
+#![tactic(auto)]
 ghost use Rattle.std.specs.Prelude.{◌≡◌, ◌+◌, ◌*◌, ◌/◌, ◌≤◌, ◌<◌, length, get_or};
 ghost use Rattle.kernels.specs.Write.{write_words};
 ghost use Rattle.kernels.specs.Kernel.{holds, put, same, within, find, empty, items, Next};
@@ -32,7 +33,7 @@ pub const DOTS: usize = 8;
 pub const ITEMS: usize = 1024;
 
 // The answer to `next`.
-#[derive(Drop)]
+#[derive(Clone, Copy)]
 pub enum Found {
     At(usize),
     Nothing,

@@ -8,7 +8,7 @@ use super::numbers::{Count, numbers};
 
 // What a line asks for. New has the sizes of its three pools; Add and Delete have how many symbols stand on the right, beside
 // the left one; Parse has how many tokens the line has. The symbols themselves stand in the buffer that `read` is lent.
-#[derive(Drop)]
+#[derive(Clone, Copy)]
 pub enum Command {
     New(usize, usize, usize),
     Add(usize),

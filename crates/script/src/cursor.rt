@@ -3,27 +3,27 @@ ghost use Rattle.std.specs.Prelude.{◌≡◌, ◌<◌, drop};
 ghost use Rattle.script.specs.Reading.{LetterAt, NumberAt, LineEndAt, digit_at, more, ended};
 
 // A place in a line.
-#[derive(Drop)]
+#[derive(Clone, Copy)]
 pub struct Cursor {
     pub at: usize,
 }
 
 // The answer to `letter`: the letter and the place after it.
-#[derive(Drop)]
+#[derive(Clone, Copy)]
 pub enum Letter {
     Is(u8, Cursor),
     Nothing,
 }
 
 // The answer to `number`: the number and the place after it.
-#[derive(Drop)]
+#[derive(Clone, Copy)]
 pub enum Number {
     Is(usize, Cursor),
     Nothing,
 }
 
 // The answer to `line_end`: the place after it.
-#[derive(Drop)]
+#[derive(Clone, Copy)]
 pub enum LineEnd {
     Is(Cursor),
     Nothing,
@@ -91,7 +91,7 @@ impl Cursor {
 }
 
 // The digits of a number as far as they are read: its value, and the place after them.
-#[derive(Drop)]
+#[derive(Clone, Copy)]
 struct Digits {
     value: usize,
     at: usize,

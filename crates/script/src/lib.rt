@@ -11,6 +11,7 @@
 // What a line means is defined on the written line and not on how it is read: specs/Written.antt has how lines are written,
 // specs/Command.antt what they mean. A line has one meaning (`means-one`, proofs/Meaning.antt), and one command and one buffer tell
 // it (`reads-one`, proofs/OneReading.antt).
+#![tactic(auto)]
 mod command; // command.rt: a line to its command
 mod cursor; // cursor.rt: letter, number and line end
 mod numbers; // numbers.rt: the numbers of a line

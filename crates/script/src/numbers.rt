@@ -4,7 +4,7 @@ ghost use Rattle.script.specs.Reading.{NumbersAt};
 use super::cursor::{Cursor, LineEnd, Number};
 
 // The answer to `numbers`: how many there are, and the place after the line's end.
-#[derive(Drop)]
+#[derive(Clone, Copy)]
 pub enum Count {
     Are(usize, Cursor),
     Malformed,

@@ -1,0 +1,12 @@
+-- `kernels::clear` meets its contract. The invariant: the words are those at the entry, the first k written. Assumes nothing.
+use mathlib.Core.Path.{◌≡◌}
+use Prim.Native.Nat.{◌-◌, ◌≤◌}
+use lib.ListN.{length}
+use Rattle.kernels.specs.Write.{write_words}
+use Rattle.kernels.proofs.clear.Given as goal
+
+abbrev pub invariant-loop-k : goal.invariant-loop-k
+invariant-loop-k l = (l.k ≤ l.n) × (length l.words ≡ length l.initial.words) × (l.words ≡ write_words l.initial.words l.at (λ j. 0) l.k)
+
+abbrev pub decreases-loop-k : goal.decreases-loop-k
+decreases-loop-k l = l.n - l.k
