@@ -12,6 +12,7 @@
 // What is unusual: `at` is never cleared. As in the sparse set of Briggs and Torczon, an entry counts only if the node that it
 // names is of this position and has that set; entries of earlier positions are below `start`. A link that does not fit sets
 // the mark `over` and changes nothing else: the graph stays valid, and the caller may ask when it likes.
+#![tactic(auto)]
 ghost use Rattle.std.specs.Prelude.{◌≡◌, ◌+◌, ◌*◌, ◌<◌, ◌≤◌, length, get_or, set};
 ghost use Rattle.laws.specs.Choice.{Tells};
 ghost use Rattle.links.specs.Records.{graph, counts, put_node, put_link};
@@ -34,7 +35,7 @@ pub const LAST: usize = 5;
 
 // How many nodes and links there are; and the mark `over`, 1 if a link was asked for that the pool has no room for, else 0. It is
 // a whole word because the struct is handed from call to call: a bool's padding would be copied in pieces, which triples the time.
-#[derive(Drop)]
+#[derive(Clone, Copy)]
 pub struct Counts {
     pub nodes: usize,
     pub links: usize,
@@ -42,7 +43,7 @@ pub struct Counts {
 }
 
 // The position at hand and its first node, with the sizes of the link pool and of the set pool.
-#[derive(Drop)]
+#[derive(Clone, Copy)]
 pub struct Here {
     pub position: usize,
     pub start: usize,

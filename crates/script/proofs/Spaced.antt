@@ -62,7 +62,7 @@ some_goes_on : {t : List ℕ} {n : ℕ} {ns rest : List ℕ} → Numbered t (n �
 some_goes_on {n = n} {ns} {rest} h = no_space_ends (h.is ∙ spaced-cons n ns rest)
 
 -- a text is read as numbers up to the line's end in one way only
-pub numbered-one : {t : List ℕ} (ms ns : List ℕ) {r s : List ℕ} → Numbered t ms r → Numbered t ns s → (ms ≡ ns) × (r ≡ s)
+pub numbered-one : (ms ns : List ℕ) {t r s : List ℕ} → Numbered t ms r → Numbered t ns s → (ms ≡ ns) × (r ≡ s)
 unfolding spaced
 numbered-one [] [] a b = (refl, sym a.is ∙ b.is)
 numbered-one [] (n ∷ ns) a b = absurd (some_goes_on b (none-ends a))

@@ -20,6 +20,7 @@
 // them. proofs/ has what a floor above needs to know of rules written (RuleNumbers), of rows written (Rows), of what the
 // model reads (Read), of the start kernel (Starts), of one change after another (Becoming), and that no second list of numbers
 // fits a promise (Once, OneOutcome).
+#![tactic(auto)]
 mod bytes; // bytes.rt: a number read as an index, numbers made zero
 mod cells; // cells.rt: marks and targets
 mod rules; // rules.rt: sizes and rules

@@ -32,5 +32,5 @@ pub returns-in-76 : goal.returns-in-76
 returns-in-76 c = by_letter c.in-76.is (tells_list _ c.alone-in-76.ensures)
 
 pub returns-in_default : goal.returns-in_default
-returns-in_default c = let none = c.in-78.rest in
+returns-in_default c = let none = c.in_default.in_default-own.rest in
     tells_nothing _ _ none.0.0.0.0.0.0.1 none.0.0.0.0.0.1 none.0.0.0.0.1 none.0.0.0.1 none.0.0.1 none.0.1 none.1
