@@ -28,8 +28,10 @@ def main():
         rows = dict(line.rstrip("\n").split("\t") for line in f if line.strip())
     for path in sorted(glob.glob("crates/*/specs/**/*.antt", recursive=True) + glob.glob("crates/*/proofs/**/*.antt", recursive=True)):
         turn(path, lambda text: of_code(text, rows, "antt"))
+    # a row without a dash or a hump is a lemma that would fall together with a definition; in .rt the word is a function's name
+    marked = {word: new for word, new in rows.items() if "-" in word or HUMP.search(word)}
     for path in sorted(glob.glob("crates/*/src/**/*.rt", recursive=True)):
-        turn(path, lambda text: of_code(text, rows, "rt"))
+        turn(path, lambda text: of_code(text, marked, "rt"))
     for path in sorted(glob.glob("crates/*/must-fail/*.edit")):
         turn(path, lambda text: of_edit(text, rows))
     pages = glob.glob("*.md") + glob.glob("docs/**/*.md", recursive=True) + glob.glob("embedding/*.md")

@@ -63,7 +63,7 @@ fn put_moved(rules: &[u8], item: usize, x: usize, kernel: &mut [u64])
 }
 
 // What an expanded set has of completed items: a bit for each reduction, and its accept mark.
-#[derive(Drop)]
+#[derive(Clone, Copy)]
 pub struct Completed {
     pub reductions: [u64; 2],
     pub accepts: bool,

@@ -9,6 +9,7 @@
 // or in use, and which is the lowest free one, each by a pass over one byte of every row.
 //
 // `collect` asks for a table in form and leaves one in form (law `collected-formed` of proofs/Collected.antt).
+#![tactic(auto)]
 ghost use Rattle.theory.specs.Expansion.{collected};
 ghost use Rattle.table.specs.Layout.{mem, view};
 ghost use Rattle.table.specs.Laid.{Formed};

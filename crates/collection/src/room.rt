@@ -20,7 +20,7 @@ pub fn free_sets(cells: &[u8], sets: usize) -> usize
 }
 
 // How many sets are in use.
-pub fn in_use_now(cells: &[u8], sets: usize) -> usize
+pub fn in_use(cells: &[u8], sets: usize) -> usize
     requires { sets * 128 ≤ length cells.now }
     ensures { InTables sets cells.now in_use result }
 {

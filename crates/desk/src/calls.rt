@@ -175,5 +175,5 @@ fn sets_in_use(rules: &[u8], cells: &[u8]) -> usize
     if cells.len() < sets * table::ROW {
         return 0;
     }
-    collection::room::in_use_now(cells, sets)
+    collection::room::in_use(cells, sets)
 }

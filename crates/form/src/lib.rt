@@ -15,6 +15,7 @@
 // Each inner test has an equation with a test of specs/ as its contract, clause by clause in the order of the code;
 // proofs/Formed.antt shows that the whole is `Formed`, and so that the form is decided (`formed_dec`). proofs/OneOutcome.antt
 // draws the conclusion that a promise on a lent table has one outcome.
+#![tactic(auto)]
 mod masks; // masks.rt: the bits that kernels and reductions may have
 mod rules; // rules.rt: the rules as the form asks
 mod sets; // sets.rt: the sets as the form asks

@@ -9,6 +9,7 @@
 // lists, the level at hand and the next, which change places, and an index for each node into the list that is being made.
 // Whether a node is in that list takes two reads, as in the sparse set of Briggs and Torczon: the index may hold anything, and
 // counts only if the list has the node there. So nothing is ever cleared, and the array need not be zero at first.
+#![tactic(auto)]
 ghost use Rattle.std.specs.Prelude.{◌≡◌, ◌+◌, ◌*◌, ◌<◌, ◌≤◌, length};
 ghost use Rattle.laws.specs.Choice.{Tells};
 ghost use Rattle.links.specs.Held.{Chained};
@@ -22,7 +23,7 @@ pub const NODES: usize = 4097;
 pub const WORK: usize = 12291;
 
 // A level: on which side its list stands, and how many nodes it has.
-#[derive(Drop)]
+#[derive(Clone, Copy)]
 pub struct Level {
     pub side: usize,
     pub count: usize,

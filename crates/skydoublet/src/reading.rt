@@ -35,7 +35,7 @@ pub extern "C" fn skydoublet_sets_in_use(rules: &[u8], cells: &[u8]) -> usize
     if cells.len() / table::ROW < sets {
         return 0;
     }
-    collection::room::in_use_now(cells, sets)
+    collection::room::in_use(cells, sets)
 }
 
 // The mark of set s, 0 where it isn't there.

@@ -1,4 +1,4 @@
--- `skydoublet_sets_in_use` tells what `collection::room::in_use_now` tells of the sets that the table has. Assumes nothing.
+-- `skydoublet_sets_in_use` tells what `collection::room::in_use` tells of the sets that the table has. Assumes nothing.
 use native.Mathlib.Omega.{arith}
 use Rattle.skydoublet.proofs.Told.{told-in_use}
 use borrow.Author.Rules.{rules}

@@ -1,0 +1,21 @@
+-- `closure::item::is_current_rule_of` meets its contract. The two tests are those of the model, in its order. Assumes nothing.
+use mathlib.Core.Path.{sym, ap, ◌∙◌}
+use borrow.Author.Tests.{eq-eqb, ne_eqb}
+use borrow.Author.Rules.{rules}
+use lib.Dec.{eqb}
+use Rattle.laws.proofs.Choice.{and_on, and_off}
+use Rattle.closure.specs.Item.{current_rule_of}
+use Rattle.closure.proofs.Rules.{state_read}
+use Rattle.closure.proofs.item.is_current_rule_of.Goals as goal
+
+pub returns-then-rules-r-ne-CURRENT : goal.returns-then-rules-r-ne-CURRENT
+unfolding current_rule_of
+returns-then-rules-r-ne-CURRENT c =
+    let state = state_read c.args.rules.now c.requires.0 c.args.r c.requires.1 in
+    and_off _ (ap (λ x. eqb x 1) (sym state) ∙ ne_eqb _ _ c.if-rules-r-ne-CURRENT.true)
+
+pub returns : goal.returns
+unfolding current_rule_of
+returns c =
+    let state = state_read c.args.rules.now c.requires.0 c.args.r c.requires.1 in
+    and_on (ap (λ x. eqb x 1) (sym state) ∙ eq-eqb _ _ c.if-rules-r-ne-CURRENT.false) (ap (λ x. eqb x c.args.b.0) c.left.ensures)
