@@ -9,7 +9,7 @@ ghost use Rattle.checks.specs.Found.{AddFound, DeleteFound};
 use symbols::{Answer, Rule};
 
 // What a check has found: Done with the rule and a number, or a refusal. It would be an enum, could an enum hold an array.
-#[derive(Drop)]
+#[derive(Clone, Copy)]
 pub struct Found {
     pub answer: Answer,
     pub number: usize,

@@ -5,6 +5,7 @@
 // number that it takes or has. Where an Add finds no number, `lowest_free` finds one after a collection.
 //
 // Each contract says what the model's call does on every table with these rules, whatever its sets (specs/Found.antt).
+#![tactic(auto)]
 mod find; // find.rt: the searches over the rules, for Add and Delete
 mod pool; // pool.rt: the sizes, for New
 

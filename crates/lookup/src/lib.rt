@@ -7,6 +7,7 @@
 // The key is a kernel in 16 words that stand by themselves. Where it is not empty, a free set, whose words are zero, is never taken
 // for the one looked for (`kernel-set`, proofs/SameKernel.antt). `find_or_make` asks for that and for room: some set has the kernel,
 // or a number is free.
+#![tactic(auto)]
 ghost use Rattle.std.specs.Prelude.{◌≡◌, ◌+◌, ◌*◌, ◌≤◌, ◌<◌, length};
 ghost use Rattle.table.specs.Layout.{sets as setsOf, sets_in, rules_in, kernel_seen};
 ghost use Rattle.lookup.specs.Lookup.{made, kernel_at, Sought, Asked, Answered};

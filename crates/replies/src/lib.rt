@@ -6,6 +6,7 @@
 //
 // specs/Printed.antt has the line of each answer, specs/Reply.antt the text of each reply, and what its numbers must be to have room:
 // of four digits at most.
+#![tactic(auto)]
 ghost use Rattle.std.specs.Prelude.{◌≡◌, ◌+◌, ◌≤◌, length};
 ghost use Rattle.table.specs.Layout.{mem, view};
 ghost use Rattle.text.specs.Puts.{Puts};
@@ -20,7 +21,7 @@ mod listed; // listed.rt: the whole listing
 
 // What a command leaves to print: an answer alone; the answer of Add or Delete with the rule's number; that of Parse with the
 // links and the sets in use; that of Collect or Restart with the sets in use; or the listing of the table.
-#[derive(Drop)]
+#[derive(Clone, Copy)]
 pub enum Reply {
     Alone(Answer),
     Change(Answer, usize),
