@@ -12,6 +12,7 @@
 // The set's own row is written last. Until then the table holds what the model's turn holds, and no half-expanded set is ever seen.
 //
 // `expand` asks for a table in form and leaves one. All that the layer above may rely on stands in proofs/Promises.antt.
+#![tactic(auto)]
 ghost use Rattle.table.specs.Layout.{mem};
 ghost use Rattle.expansion.specs.Expansion.{Unexpanded, Tried, Expandable, Expands};
 

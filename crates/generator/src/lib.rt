@@ -14,6 +14,7 @@
 //
 // Each contract names the model's call on the table that the numbers hold (`Promised`, of `table`), and with it the answer, the rule
 // number and every lent number afterwards.
+#![tactic(auto)]
 ghost use Rattle.symbols.specs.Answer.{number_of};
 ghost use Rattle.theory.specs.Calls.{add, delete, collect, restart};
 ghost use Rattle.table.specs.Layout.{mem};
@@ -25,7 +26,7 @@ use symbols::Answer;
 mod change; // change.rt: Add and Delete on a table in form
 
 // What Add and Delete answer: the number of the rule, 0 on a refusal.
-#[derive(Drop)]
+#[derive(Clone, Copy)]
 pub struct Changed {
     pub answer: Answer,
     pub rule: usize,

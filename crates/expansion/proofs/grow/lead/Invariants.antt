@@ -1,0 +1,15 @@
+-- `expansion::grow::lead` meets its contract. The invariant: sets and row are those of the symbols below `from`. Assumes nothing.
+use Prim.Native.Nat.{◌-◌}
+use mathlib.Core.Path.{◌≡◌}
+use lib.ListN.{length}
+use Rattle.table.specs.Layout.{sets}
+use Rattle.expansion.proofs.Lead.{LeadFrom}
+use borrow.Author.Rules.{rules}
+use Rattle.expansion.proofs.grow.lead.Given as goal
+
+abbrev pub invariant-loop-x : goal.invariant-loop-x
+invariant-loop-x l =
+    LeadFrom l.rules (sets l.initial.cells l.initial.words) l.closure l.symbols l.from (sets l.cells l.words) l.row × (length l.cells ≡ length l.initial.cells) × (length l.words ≡ length l.initial.words)
+
+abbrev pub decreases-loop-x : goal.decreases-loop-x
+decreases-loop-x l = 128 - l.from
