@@ -7,6 +7,7 @@
 // counts of nodes and links on by value. What each promises is said by the steps of theory/specs/Steps.antt: from the place that was
 // entered they reach the place that is left (theory/specs/Reaches.antt), or end. So `read` has, in the end, 01's steps from the first
 // position to the verdict; and where that is accept, the graph of links is what the buffer holds (`holds-graph`).
+#![tactic(auto)]
 ghost use Rattle.std.specs.Prelude.{[], ◌≡◌, ◌≤◌, ◌<◌, length};
 ghost use Rattle.table.specs.Layout.{mem, sets_in};
 ghost use Rattle.table.specs.Laid.{Formed};
@@ -21,14 +22,14 @@ use symbols::Answer;
 mod settle; // settle.rt: a position settled
 
 // What a parse answers: its answer, and the number of links in the graph at the end, 0 on a refusal.
-#[derive(Drop)]
+#[derive(Clone, Copy)]
 pub struct Verdict {
     pub answer: Answer,
     pub links: usize,
 }
 
 // What came of a position before the last: the next position, with its first node, or the end of the parse.
-#[derive(Drop)]
+#[derive(Clone, Copy)]
 pub enum Advanced {
     On(usize, Counts),
     Ends(Verdict),

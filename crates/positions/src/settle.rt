@@ -9,7 +9,7 @@ use links::{Counts, Here};
 use symbols::Answer;
 
 // What came of settling a position.
-#[derive(Drop)]
+#[derive(Clone, Copy)]
 pub enum Settled {
     Ready(Counts),
     Refused(Answer),

@@ -13,7 +13,7 @@ const MOST_LINKS: usize = 4096;
 const MOST_TOKENS: usize = 255;
 
 // What the checks found.
-#[derive(Drop)]
+#[derive(Clone, Copy)]
 pub enum Checked {
     Passed,
     Refused(Answer),
