@@ -20,7 +20,7 @@ pub const MOST_RULES: usize = 128;
 pub const MOST_LINKS: usize = 1024;
 
 // What N leaves beside the numbers of the table: its answer, and the size of the link pool from then on.
-#[derive(Drop)]
+#[derive(Clone, Copy)]
 pub struct Made {
     pub answer: Answer,
     pub pool: usize,

@@ -13,6 +13,7 @@
 // A line costs its call; P, G and R also a look at one byte of each set, and L what it prints.
 //
 // specs/Obeys.antt says what each command does and prints, and `Prints` there is what `answer` promises.
+#![tactic(auto)]
 mod calls; // calls.rt: each command's call, and its reply
 mod obey; // obey.rt: a line to its command, its call and its text
 

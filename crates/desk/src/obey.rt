@@ -11,7 +11,7 @@ use script::Command;
 use symbols::Answer;
 
 // What a command leaves beside the numbers: its reply, and the size of the link pool from then on.
-#[derive(Drop)]
+#[derive(Clone, Copy)]
 pub struct Obeyed {
     pub reply: Reply,
     pub pool: usize,
@@ -74,7 +74,7 @@ fn obey(
 }
 
 // What a line leaves beside the numbers: the size of the link pool, and the place after its text.
-#[derive(Drop)]
+#[derive(Clone, Copy)]
 pub struct Answered {
     pub pool: usize,
     pub end: usize,
