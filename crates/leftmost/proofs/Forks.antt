@@ -6,7 +6,9 @@ use mathlib.Core.List.{List, [], ◌∷◌}
 use Prim.Native.Nat.{ℕ, zero, suc, ◌≤◌, ◌<◌}
 use native.Mathlib.Decide.{ℕ_discrete}
 use native.Mathlib.Omega.{arith}
+use lib.Dec.{T}
 use lib.ListN.{length, get_or}
+use Rattle.symbols.specs.Symbol.{terminal}
 use Rattle.theory.specs.Derivation.{Grammar}
 use Rattle.leftmost.specs.Within.{Spans, OfLine}
 use Rattle.leftmost.specs.Kept.{Store, Total, Sound, NoTokens}
@@ -48,15 +50,21 @@ other_at (y ∷ ys) i (m ∷ ms) (k ∷ ns) (suc p) h e f same n =
     start (suc p) = refl
 
 module _ {line : List ℕ} {σ : Store} (none : NoTokens σ) where
-  other_fork : {ys ms ns : List ℕ} {i j k y s a b c d : ℕ} → Total line σ ys i ms j c → Total line σ ys i ns k d → Other ys i ms ns y s a b
+  -- what follows a token has the same sum
+  after-token : {y i m j c : ℕ} {ys ms : List ℕ} → T (terminal y) → Total line σ (y ∷ ys) i (m ∷ ms) j c → Total line σ ys m ms j c
+  after-token t (token t' h e u) = u
+  after-token {y} {i} {m} t (span z u q) = absurd (none y i m t z)
+
+  other_fork : {ys ms ns : List ℕ} {i j k y s a b c d : ℕ} → Other ys i ms ns y s a b → Total line σ ys i ms j c → Total line σ ys i ns k d
       → Fork σ y s a b c
-  other_fork (token t h e u) (token t' h' e' v) (here n) = absurd (n refl)
-  other_fork {ys = y ∷ ys} {i = i} (token t h e u) (span {m = m} z v q) o = absurd (none y i m t z)
-  other_fork {ys = y ∷ ys} {i = i} (span {m = m} z u q) (token t h e v) o = absurd (none y i m t z)
-  other_fork (span z u q) (span z' v q') (here n) = record { apart = n; one = z; two = z'; less = omega arith }
-  other_fork (token t h e u) (token t' h' e' v) (further o) = other_fork u v o
-  other_fork (span z u q) (span z' v q') (further o) =
-      let f = other_fork u v o in
+  other_fork (here n) (token t h e u) (token t' h' e' v) = absurd (n refl)
+  other_fork (here {y = y} {i = i} {n = m} n) (token t h e u) (span z v q) = absurd (none y i m t z)
+  other_fork (here {y = y} {i = i} {m = m} n) (span z u q) (token t h e v) = absurd (none y i m t z)
+  other_fork (here n) (span z u q) (span z' v q') = record { apart = n; one = z; two = z'; less = omega arith }
+  other_fork (further o) (token t h e u) v = other_fork o u (after-token t v)
+  other_fork (further {x = y} {i = i} {m = m} o) (span z u q) (token t h e v) = absurd (none y i m t z)
+  other_fork (further o) (span z u q) (span z' v q') =
+      let f = other_fork o u v in
       let l = f.less in
       record { apart = f.apart; one = f.one; two = f.two; less = omega arith }
 
@@ -85,7 +93,7 @@ module _ {G : Grammar} {line : List ℕ} {S : Spans} {most : ℕ} {σ : Store} (
   pub walk_on : {y s c d : ℕ} → Other (G.right (σ x i a).rule) i (σ x i a).ends (σ x i b).ends y s c d
       → (c ≢ d) × ((σ y s c).cost ≢ 0) × ((σ y s d).cost ≢ 0) × ((σ y s c).cost < (σ x i a).cost)
   walk_on o =
-      let f = other_fork (no_tokens sound of_line) (sound x i a one).offer.total second o in
+      let f = other_fork (no_tokens sound of_line) o (sound x i a one).offer.total second in
       let l = f.less in
       let h = (sound x i a one).enough in
       (f.apart, f.one, f.two, omega arith)

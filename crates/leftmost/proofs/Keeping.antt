@@ -24,8 +24,8 @@ record Less (line : List ℕ) (τ : Store) (ys : List ℕ) (i : ℕ) (ms : List 
 less : {line : List ℕ} {σ τ : Store} → Lower σ τ → {ys ms : List ℕ} {i j c : ℕ} → Total line σ ys i ms j c → Less line τ ys i ms j c
 less l end = record { sum = 0; total = end; low = omega arith }
 less l (token t h e s) = let a = less l s in record { sum = a.sum; total = token t h e a.total; low = a.low }
-less {τ = τ} l (span {y = y} {i = i} {m = m} z s e) =
-    let a = less l s in
+less {σ = σ} {τ = τ} l (span {y = y} {i = i} {m = m} z s e) =
+    let a = less {σ = σ} {τ = τ} l s in
     let (u, v) = l y i m z in
     record { sum = (τ y i m).cost + a.sum; total = span u a.total refl; low = (let w = a.low in omega arith) }
 

@@ -19,7 +19,7 @@ use Rattle.leftmost.specs.Comes.{Comes}
 use Rattle.leftmost.specs.Comes.Comes.{offered}
 use Rattle.leftmost.specs.Levels.{Leads, Level, Chosen}
 use Rattle.leftmost.proofs.Order.{before_longer, before-after, low_or_high}
-use Rattle.leftmost.proofs.Said.{not-said, said-once}
+use Rattle.leftmost.proofs.Said.{after-token, said-once}
 use Rattle.leftmost.proofs.Walked.{precedes_before}
 
 -- what a non-terminal and the symbols after it say
@@ -49,9 +49,7 @@ module _ {G : Grammar} {line : List ℕ} {σ : Store} (none : NoTokens σ) where
   leads-token {y} {i} {j} {c} {ys} {ms} t h e l = record { total = passed t h e l.total; first = λ ns d w. go w }
     where
       ahead : {ns : List ℕ} → Ahead G line σ ys (suc i) j ms ns → Ahead G line σ (y ∷ ys) i j (suc i ∷ ms) (suc i ∷ ns)
-      ahead a qs ps (token t h e u) (token t' h' e' v) = a qs ps u v
-      ahead a qs ps (span s u p) v = absurd (not-said none t s)
-      ahead a qs ps (token t h e u) (span s v p) = absurd (not-said none t s)
+      ahead a qs ps u v = a qs ps (after-token none t u) (after-token none t v)
 
       foremost : {ns : List ℕ} → Foremost G line σ ys (suc i) j ms ns → Foremost G line σ (y ∷ ys) i j (suc i ∷ ms) (suc i ∷ ns)
       foremost (inl q) = inl (ap (λ u. suc i ∷ u) q)

@@ -1,5 +1,5 @@
 -- The order of lists of rule numbers. Assumes nothing.
-use mathlib.Core.Path.{◌≡◌, sym, ◌∙◌, ap, subst}
+use mathlib.Core.Path.{◌≡◌, refl, sym, ◌∙◌, ap, subst}
 use mathlib.Core.Logic.{◌⊎◌, inl, inr, ⊎_elim}
 use mathlib.Core.List.{List, [], ◌∷◌, ◌++◌}
 use Prim.Native.Nat.{ℕ, zero, suc, ◌≤◌, ◌<◌}
@@ -7,15 +7,35 @@ use native.Mathlib.Omega.{arith}
 use Rattle.leftmost.specs.Leftmost.{Before}
 use Rattle.leftmost.specs.Leftmost.Before.{lower, later}
 
+-- the same at two lists that are equal
+not_same : {rs qs : List ℕ} → Before rs qs → rs ≡ qs → ⊥
+not_same (lower {a = a} {b = b} h) e = let f : a ≡ b = cc in omega arith
+not_same (later {rs = rs} {qs = qs} b) e = let f : rs ≡ qs = cc in not_same b f
+
 pub before_not_same : {rs : List ℕ} → Before rs rs → ⊥
-before_not_same (lower h) = omega arith
-before_not_same (later b) = before_not_same b
+before_not_same b = not_same b refl
+
+-- the same at two pairs of lists that are equal
+one_way : {rs qs ps ss : List ℕ} → Before rs qs → Before ps ss → qs ≡ ps → rs ≡ ss → ⊥
+one_way (lower {a = a} {b = b} h) (lower {a = c} {b = d} k) e f =
+    let u : b ≡ c = cc in
+    let v : a ≡ d = cc in
+    omega arith
+one_way (lower {a = a} {b = b} h) (later {c = c} k) e f =
+    let u : b ≡ c = cc in
+    let v : a ≡ c = cc in
+    omega arith
+one_way (later {c = c} h) (lower {a = a} {b = b} k) e f =
+    let u : c ≡ a = cc in
+    let v : c ≡ b = cc in
+    omega arith
+one_way (later {rs = rs} {qs = qs} h) (later {rs = ps} {qs = ss} k) e f =
+    let u : qs ≡ ps = cc in
+    let v : rs ≡ ss = cc in
+    one_way h k u v
 
 pub before-one_way : {rs qs : List ℕ} → Before rs qs → Before qs rs → ⊥
-before-one_way (lower h) (lower k) = omega arith
-before-one_way (lower h) (later b) = omega arith
-before-one_way (later a) (lower k) = omega arith
-before-one_way (later a) (later b) = before-one_way a b
+before-one_way a b = one_way a b refl refl
 
 pub before-then : {rs qs ps : List ℕ} → Before rs qs → Before qs ps → Before rs ps
 before-then (lower {a = a} h) (lower {b = c} k) = let l : a < c = omega arith in lower l

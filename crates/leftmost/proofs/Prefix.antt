@@ -67,15 +67,15 @@ module _ {G : Grammar} {line : List ℕ} {S : Spans} (of_line : OfLine line S) w
       no_more [] more e = sym e
       no_more (r ∷ rs) more e = no_more rs more (cc)
 
-      not-before : (rs more : List ℕ) → Before rs (rs ++ more) → ⊥
-      not-before (r ∷ rs) more (lower h) = omega arith
-      not-before (r ∷ rs) more (later b) = not-before rs more b
+      not-before : {rs qs : List ℕ} → Before rs qs → (more : List ℕ) → qs ≡ rs ++ more → ⊥
+      not-before (lower {a = a} {b = b} h) more e = let f : b ≡ a = cc in omega arith
+      not-before (later {rs = rs} {qs = qs} b) more e = let f : qs ≡ rs ++ more = cc in not-before b more f
 
-      not_after : (rs more : List ℕ) → Before (rs ++ more) rs → ⊥
-      not_after (r ∷ rs) more (lower h) = omega arith
-      not_after (r ∷ rs) more (later b) = not_after rs more b
+      not_after : {rs qs : List ℕ} → Before qs rs → (more : List ℕ) → qs ≡ rs ++ more → ⊥
+      not_after (lower {a = a} {b = b} h) more e = let f : a ≡ b = cc in omega arith
+      not_after (later {rs = qs} {qs = rs} b) more e = let f : qs ≡ rs ++ more = cc in not_after b more f
 
       go : Ordered rs (rs ++ more) j k → (more ≡ []) × (j ≡ k)
       go (same e f) = (no_more rs more e, f)
-      go (first b) = absurd (not-before rs more b)
-      go (second b) = absurd (not_after rs more b)
+      go (first b) = absurd (not-before b more refl)
+      go (second b) = absurd (not_after b more refl)

@@ -69,7 +69,7 @@ module _ {G : Grammar} {line : List ℕ} {S : Spans} (of_line : OfLine line S) {
   until_pass (one {x = x} k c sets p) o u =
       until_pass p (λ y m. o y (In.tail m)) (until_step (o x (In.head refl)) c sets u)
 
-  until_rounds : {σ υ : Store} {xs : List ℕ} {t : ℕ} → Rounds G line most i j xs σ t υ → ((x : ℕ) → In x xs → S x i j)
+  until_rounds : {σ : Store} {xs : List ℕ} {υ : Store} {t : ℕ} → Rounds G line most i j xs σ t υ → ((x : ℕ) → In x xs → S x i j)
       → Until G line S most (suc i) j σ → Until G line S most (suc i) j υ
   until_rounds none o u = u
   until_rounds (more r p) o u = until_pass p o (until_rounds r o u)
@@ -127,7 +127,7 @@ module _ {G : Grammar} {line : List ℕ} {S : Spans} (of_line : OfLine line S) {
         → Near G line S most i j n σ → Near G line S most i j (suc n) υ
     near-more l p u near y z = pass_right l p (λ x m. (cell x).0 m) u near y (inr ((cell y).1 z))
 
-    near-rounds : {t : ℕ} {σ υ : Store} → t ≤ suc most → Rounds G line most i j xs σ t υ → Until G line S most (suc i) j σ
+    near-rounds : {σ : Store} {t : ℕ} {υ : Store} → t ≤ suc most → Rounds G line most i j xs σ t υ → Until G line S most (suc i) j σ
         → Near G line S most i j t υ
     near-rounds l none u = λ y z. void (λ qs s. omega arith)
     near-rounds l (more r p) u = near-more (omega arith) p (until_rounds r (λ x m. (cell x).0 m) u) (near-rounds (omega arith) r u)

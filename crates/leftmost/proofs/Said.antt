@@ -28,17 +28,34 @@ module _ {G : Grammar} {line : List ℕ} {σ : Store} where
     pub not-said : {y i m : ℕ} {q : List ℕ} → T (terminal y) → Says G line σ y i m q → ⊥
     not-said {y} {i} {m} t s = none y i m t (some-cost s)
 
+    -- what follows a token says the same
+    pub after-token : {y i m j : ℕ} {ys ms qs : List ℕ} → T (terminal y) → SaysAll G line σ (y ∷ ys) i (m ∷ ms) j qs
+        → SaysAll G line σ ys m ms j qs
+    after-token t (token t' h e u) = u
+    after-token t (span s u e) = absurd (not-said t s)
+
     mutual
       pub said-once : {x i j : ℕ} {rs qs : List ℕ} → Says G line σ x i j rs → Says G line σ x i j qs → rs ≡ qs
-      said-once {x} {i} {j} (says n c l s e) (says n' c' l' s' e') = sym e ∙ ap (λ z. (σ x i j).rule ∷ z) (all_once s s') ∙ e'
+      said-once {x} {i} {j} (says n c l s e) (says n' c' l' s' e') = sym e ∙ ap (λ z. (σ x i j).rule ∷ z) (all-same s s' refl refl) ∙ e'
 
-      pub all_once : {ys ms qs ps : List ℕ} {i j : ℕ} → SaysAll G line σ ys i ms j qs → SaysAll G line σ ys i ms j ps → qs ≡ ps
-      all_once end end = refl
-      all_once (token t h e s) (token t' h' e' s') = all_once s s'
-      all_once (token t h e s) (span a b q) = absurd (not-said t a)
-      all_once (span a b q) (token t h e s) = absurd (not-said t a)
-      all_once (span {ps = u} a s e) (span {q = w} a' s' e') =
-          sym e ∙ ap (λ z. z ++ u) (said-once a a') ∙ ap (λ z. w ++ z) (all_once s s') ∙ e'
+      -- from places that are equal, and with ends that are
+      all-same : {ys ms ns qs ps : List ℕ} {i j k l : ℕ} → SaysAll G line σ ys i ms j qs → SaysAll G line σ ys k ns l ps → i ≡ k → ms ≡ ns
+          → qs ≡ ps
+      all-same end end u v = refl
+      all-same (token {i = i} {ms = ms} t h e s) (token {i = k} {ms = ns} t' h' e' s') u v =
+          let w : suc i ≡ suc k = cc in
+          let x : ms ≡ ns = cc in
+          all-same s s' w x
+      all-same (token t h e s) (span a b q) u v = absurd (not-said t a)
+      all-same (span a b q) (token t h e s) u v = absurd (not-said t a)
+      all-same (span {y = y} {i = i} {m = m} {ms = ms} {ps = p} a s e) (span {i = k} {m = n} {ms = ns} {q = q} a' s' e') u v =
+          let w : m ≡ n = cc in
+          let x : ms ≡ ns = cc in
+          let b = subst (λ z. Says G line σ y z m q) (sym u) (subst (λ z. Says G line σ y k z q) (sym w) a') in
+          sym e ∙ ap (λ z. z ++ p) (said-once a b) ∙ ap (λ z. q ++ z) (all-same s s' w x) ∙ e'
+
+    pub all_once : {ys ms qs ps : List ℕ} {i j : ℕ} → SaysAll G line σ ys i ms j qs → SaysAll G line σ ys i ms j ps → qs ≡ ps
+    all_once s s' = all-same s s' refl refl
 
 -- ---- a list said by a span, no longer than its cost
 

@@ -12,7 +12,7 @@ use Rattle.leftmost.specs.Says.SaysAll.{token, span}
 use Rattle.leftmost.specs.Says.Other.{here, further}
 use Rattle.leftmost.specs.Says.Precedes.{by_rule, by_part}
 use Rattle.leftmost.proofs.Order.{before_longer, before-after}
-use Rattle.leftmost.proofs.Said.{not-said, said-once}
+use Rattle.leftmost.proofs.Said.{not-said, after-token, said-once}
 
 -- what the two spans say at the first symbol that ends elsewhere, and that this decides
 record Decided (G : Grammar) (line : List ℕ) (σ : Store) (y s a b : ℕ) (qs ps : List ℕ) : Type 0 where
@@ -23,23 +23,22 @@ record Decided (G : Grammar) (line : List ℕ) (σ : Store) (y s a b : ℕ) (qs 
   decides : Before one two → Before qs ps
 
 module _ {G : Grammar} {line : List ℕ} {σ : Store} (none : NoTokens σ) where
-  other-said : {ys ms ns qs ps : List ℕ} {i j k y s a b : ℕ} → SaysAll G line σ ys i ms j qs → SaysAll G line σ ys i ns k ps
-      → Other ys i ms ns y s a b → Decided G line σ y s a b qs ps
-  other-said (token t h e u) (token t' h' e' v) (here n) = absurd (n refl)
-  other-said (token t h e u) (span a v q) (here n) = absurd (not-said none t a)
-  other-said (span a u q) (token t h e v) (here n) = absurd (not-said none t a)
-  other-said (span {q = q} {ps = w} {qs = l} a u e) (span {q = q'} {ps = w'} {qs = l'} b v e') (here n) = record {
+  other-said : {ys ms ns qs ps : List ℕ} {i j k y s a b : ℕ} → Other ys i ms ns y s a b → SaysAll G line σ ys i ms j qs
+      → SaysAll G line σ ys i ns k ps → Decided G line σ y s a b qs ps
+  other-said (here n) (token t h e u) (token t' h' e' v) = absurd (n refl)
+  other-said (here n) (token t h e u) (span a v q) = absurd (not-said none t a)
+  other-said (here n) (span a u q) (token t h e v) = absurd (not-said none t a)
+  other-said (here n) (span {q = q} {ps = w} {qs = l} a u e) (span {q = q'} {ps = w'} {qs = l'} b v e') = record {
     one = q;
     two = q';
     says-one = a;
     says_two = b;
     decides = λ o. subst (λ z. Before z l') e (subst (λ z. Before (q ++ w) z) e' (before_longer o w w'));
   }
-  other-said (token t h e u) (token t' h' e' v) (further o) = other-said u v o
-  other-said (token t h e u) (span a v q) (further o) = absurd (not-said none t a)
-  other-said (span a u q) (token t h e v) (further o) = absurd (not-said none t a)
-  other-said (span {q = q} {ps = w} {qs = l} a u e) (span {q = q'} {ps = w'} {qs = l'} b v e') (further o) =
-      let d = other-said u v o in
+  other-said (further o) (token t h e u) v = other-said o u (after-token none t v)
+  other-said (further o) (span a u q) (token t h e v) = absurd (not-said none t a)
+  other-said (further o) (span {q = q} {ps = w} {qs = l} a u e) (span {q = q'} {ps = w'} {qs = l'} b v e') =
+      let d = other-said o u v in
       record {
         one = d.one;
         two = d.two;
@@ -55,6 +54,6 @@ module _ {G : Grammar} {line : List ℕ} {σ : Store} (none : NoTokens σ) where
   precedes_before {x} {i} {a} {b} {rs} {qs} (by_rule h) (says {qs = u} n c l s e) (says {qs = v} n' c' l' s' e') =
       subst (λ z. Before z qs) e (subst (λ z. Before ((σ x i a).rule ∷ u) z) e' (lower h))
   precedes_before {x} {i} {a} {b} {rs} {qs} (by_part w o p) (says {qs = u} n c l s e) (says {qs = v} n' c' l' s' e') =
-      let d = other-said s (subst (λ r. SaysAll G line σ (G.right r) i (σ x i b).ends b v) (sym w) s') o in
+      let d = other-said o s (subst (λ r. SaysAll G line σ (G.right r) i (σ x i b).ends b v) (sym w) s') in
       let z : Before u v = d.decides (precedes_before p d.says-one d.says_two) in
       subst (λ z. Before z qs) e (subst (λ z. Before ((σ x i a).rule ∷ u) z) (ap (λ r. r ∷ v) w ∙ e') (later z))
