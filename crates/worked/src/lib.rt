@@ -1,1 +1,3 @@
 // 01's worked lines, computed on the model. No code.
+
+#![tactic(auto)]
