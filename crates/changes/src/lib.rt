@@ -11,6 +11,7 @@
 //
 // A row is made bare by zeros and its mark: an unexpanded set has no target and no reduction. Its kernel's words are not touched.
 #![tactic(auto)]
+
 ghost use Rattle.std.specs.Prelude.{◌≡◌};
 ghost use Rattle.theory.specs.Calls.{put_rule, new_table};
 ghost use Rattle.table.specs.Layout.{mem, sets, view};

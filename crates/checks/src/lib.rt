@@ -6,6 +6,7 @@
 //
 // Each contract says what the model's call does on every table with these rules, whatever its sets (specs/Found.antt).
 #![tactic(auto)]
+
 mod find; // find.rt: the searches over the rules, for Add and Delete
 mod pool; // pool.rt: the sizes, for New
 

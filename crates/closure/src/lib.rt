@@ -18,6 +18,7 @@
 // with 001's inductive one stands in specs/UnderWay.antt; for the floor above, proofs/Written.antt says what the words that come
 // out of here still hold where they are written into a table.
 #![tactic(auto)]
+
 mod item; // item.rt: what an item says
 mod rounds; // CLOSURE
 mod walks; // what EXPAND asks of it

@@ -10,6 +10,7 @@
 //
 // `collect` asks for a table in form and leaves one in form (law `collected-formed` of proofs/Collected.antt).
 #![tactic(auto)]
+
 ghost use Rattle.theory.specs.Expansion.{collected};
 ghost use Rattle.table.specs.Layout.{mem, view};
 ghost use Rattle.table.specs.Laid.{Formed};

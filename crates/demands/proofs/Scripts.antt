@@ -2,7 +2,7 @@
 use mathlib.Core.Bool.{Bool, true, false}
 use mathlib.Core.Path.{◌≡◌, refl, sym, ap, ◌∙◌, subst}
 use mathlib.Core.Logic.{◌⊎◌, inl, inr, ⊎_elim}
-use mathlib.Core.List.{List, []}
+use mathlib.Core.List.{List}
 use Prim.Native.Nat.{ℕ}
 use Rattle.symbols.specs.Answer.{BAD_TABLE, number_of}
 use Rattle.theory.specs.Table.{in_use}
@@ -14,7 +14,7 @@ use Rattle.script.specs.Command.{Meaning, Means}
 use Rattle.script.specs.Command.Meaning.{parse as parse-meaning}
 use Rattle.script.proofs.Meaning.{means-one}
 use Rattle.replies.specs.Printed.{answer_line}
-use Rattle.desk.specs.Obeys.{here, State, Makes, Parsed, Obeys, Answers}
+use Rattle.desk.specs.Obeys.{here, State, Makes, Obeys, Answers}
 use Rattle.desk.specs.Obeys.Obeys.{makes, adds, deletes, parses, collects, restarts, lists, skips}
 use Rattle.desk.specs.Script.{Ran, Last, Script, LineOf, blank}
 use Rattle.desk.specs.Script.Ran.{rest, line}

@@ -3,8 +3,8 @@
 use mathlib.Core.Bool.{Bool}
 use mathlib.Core.Path.{◌≡◌, subst}
 use mathlib.Core.Logic.{⊎_elim}
-use mathlib.Core.List.{List, []}
-use Prim.Native.Nat.{ℕ, ◌+◌, ◌≤◌, zero-le}
+use mathlib.Core.List.{List}
+use Prim.Native.Nat.{ℕ, ◌≤◌, zero-le}
 use native.Mathlib.Omega.{arith}
 use lib.Dec.{eqb, ltb, leb}
 use lib.ListN.{length}
@@ -12,7 +12,6 @@ use Rattle.laws.specs.Lists.{up_from}
 use Rattle.laws.proofs.Choice.{when-cases}
 use Rattle.laws.proofs.Lists.{first_in, in_up}
 use Rattle.symbols.specs.Symbol.{rule_answer}
-use Rattle.symbols.specs.Answer.{number_of}
 use Rattle.theory.specs.Table.{CURRENT, WITHDRAWN, RulePlace, Table, rule_at}
 use Rattle.theory.specs.Expansion.{collected}
 use Rattle.theory.specs.Form.{in_form}

@@ -7,7 +7,6 @@ use native.Mathlib.Omega.{arith}
 use lib.Dec.{ltb}
 use Rattle.laws.specs.Choice.{when, ◌or◌}
 use Rattle.laws.proofs.Tables.{length_tab}
-use Rattle.symbols.specs.Answer.{number_of}
 use Rattle.theory.specs.Table.{Table, in_use}
 use Rattle.theory.specs.Parse.{Outcome}
 use Rattle.theory.proofs.Counted.{kept_and_not}

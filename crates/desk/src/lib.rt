@@ -14,6 +14,7 @@
 //
 // specs/Obeys.antt says what each command does and prints, and `Prints` there is what `answer` promises.
 #![tactic(auto)]
+
 mod calls; // calls.rt: each command's call, and its reply
 mod obey; // obey.rt: a line to its command, its call and its text
 

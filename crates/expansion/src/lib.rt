@@ -13,6 +13,7 @@
 //
 // `expand` asks for a table in form and leaves one. All that the layer above may rely on stands in proofs/Promises.antt.
 #![tactic(auto)]
+
 ghost use Rattle.table.specs.Layout.{mem};
 ghost use Rattle.expansion.specs.Expansion.{Unexpanded, Tried, Expandable, Expands};
 

@@ -16,6 +16,7 @@
 // proofs/Formed.antt shows that the whole is `Formed`, and so that the form is decided (`formed_dec`). proofs/OneOutcome.antt
 // draws the conclusion that a promise on a lent table has one outcome.
 #![tactic(auto)]
+
 mod masks; // masks.rt: the bits that kernels and reductions may have
 mod rules; // rules.rt: the rules as the form asks
 mod sets; // sets.rt: the sets as the form asks

@@ -15,6 +15,7 @@
 // Each contract names the model's call on the table that the numbers hold (`Promised`, of `table`), and with it the answer, the rule
 // number and every lent number afterwards.
 #![tactic(auto)]
+
 ghost use Rattle.symbols.specs.Answer.{number_of};
 ghost use Rattle.theory.specs.Calls.{add, delete, collect, restart};
 ghost use Rattle.table.specs.Layout.{mem};

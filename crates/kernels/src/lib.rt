@@ -12,6 +12,7 @@
 // current, nor how long they are. A test's contract is an equation with a test of specs/, so that a caller's `if` has that
 // test true or false; proofs/ says what it means (`same_iff`, `within_iff`, `empty_iff`).
 #![tactic(auto)]
+
 ghost use Rattle.std.specs.Prelude.{◌≡◌, ◌+◌, ◌*◌, ◌/◌, ◌≤◌, ◌<◌, length, get_or};
 ghost use Rattle.kernels.specs.Write.{write_words};
 ghost use Rattle.kernels.specs.Kernel.{holds, put, same, within, find, empty, items, Next};

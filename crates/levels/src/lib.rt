@@ -10,6 +10,7 @@
 // Whether a node is in that list takes two reads, as in the sparse set of Briggs and Torczon: the index may hold anything, and
 // counts only if the list has the node there. So nothing is ever cleared, and the array need not be zero at first.
 #![tactic(auto)]
+
 ghost use Rattle.std.specs.Prelude.{◌≡◌, ◌+◌, ◌*◌, ◌<◌, ◌≤◌, length};
 ghost use Rattle.laws.specs.Choice.{Tells};
 ghost use Rattle.links.specs.Held.{Chained};

@@ -13,6 +13,7 @@
 // names is of this position and has that set; entries of earlier positions are below `start`. A link that does not fit sets
 // the mark `over` and changes nothing else: the graph stays valid, and the caller may ask when it likes.
 #![tactic(auto)]
+
 ghost use Rattle.std.specs.Prelude.{◌≡◌, ◌+◌, ◌*◌, ◌<◌, ◌≤◌, length, get_or, set};
 ghost use Rattle.laws.specs.Choice.{Tells};
 ghost use Rattle.links.specs.Records.{graph, counts, put_node, put_link};

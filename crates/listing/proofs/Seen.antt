@@ -13,7 +13,7 @@ use Rattle.laws.proofs.Tables.{length_tab}
 use Rattle.kernels.specs.Kernel.{holds}
 use Rattle.kernels.proofs.Kernel.{has_on}
 use Rattle.theory.specs.Table.{EXPANDED, Item, SetPlace, item, set_at, all_items}
-use Rattle.table.specs.Layout.{Sets, Mem, sets, sets_in, rules_in, state_of, transition, kernel_seen, transitions_seen, reductions_seen, set_seen, view_sets, view}
+use Rattle.table.specs.Layout.{Sets, Mem, sets_in, rules_in, state_of, transition, kernel_seen, transitions_seen, reductions_seen, set_seen, view_sets, view}
 use Rattle.table.specs.Laid.{LaidSet, Laid}
 use Rattle.table.proofs.Read.{set_read}
 use Rattle.text.specs.Text.{SPACE, NEWLINE, decimal, spaced}

@@ -11,6 +11,7 @@
 // what is put by the cells and the words, whatever they are: specs/Walk.antt has the texts by the numbers, as the code walks them.
 // What `L` prints of a table is in specs/Printed.antt, and proofs/Seen.antt proves the two the same where the numbers are laid out.
 #![tactic(auto)]
+
 mod contents_line; // contents_line.rt: the contents line
 mod set_body; // set_body.rt: the body of one set
 

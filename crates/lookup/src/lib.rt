@@ -8,6 +8,7 @@
 // for the one looked for (`kernel-set`, proofs/SameKernel.antt). `find_or_make` asks for that and for room: some set has the kernel,
 // or a number is free.
 #![tactic(auto)]
+
 ghost use Rattle.std.specs.Prelude.{◌≡◌, ◌+◌, ◌*◌, ◌≤◌, ◌<◌, length};
 ghost use Rattle.table.specs.Layout.{sets as setsOf, sets_in, rules_in, kernel_seen};
 ghost use Rattle.lookup.specs.Lookup.{made, kernel_at, Sought, Asked, Answered};

@@ -8,6 +8,7 @@
 // entered they reach the place that is left (theory/specs/Reaches.antt), or end. So `read` has, in the end, 01's steps from the first
 // position to the verdict; and where that is accept, the graph of links is what the buffer holds (`holds-graph`).
 #![tactic(auto)]
+
 ghost use Rattle.std.specs.Prelude.{[], ◌≡◌, ◌≤◌, ◌<◌, length};
 ghost use Rattle.table.specs.Layout.{mem, sets_in};
 ghost use Rattle.table.specs.Laid.{Formed};

@@ -18,6 +18,7 @@
 // line and leaves the graph of links in the buffer, `clear` makes that part of it zero. What `parse` promises stands in
 // specs/Parse.antt, and what that says of lines and grammars in the crate `demands`.
 #![tactic(auto)]
+
 ghost use Rattle.std.specs.Prelude.{◌≤◌, length};
 ghost use Rattle.table.specs.Layout.{mem};
 ghost use Rattle.links.specs.Records.{numbers_for};

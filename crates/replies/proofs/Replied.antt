@@ -1,6 +1,5 @@
 -- What a reply asks of the text and what it prints, once its case is known. Assumes nothing.
 use mathlib.Core.Path.{◌≡◌, sym, ap, ◌∙◌, subst}
-use mathlib.Core.List.{List}
 use Prim.Native.Nat.{ℕ, ◌≤◌}
 use Rattle.symbols.specs.Answer.{number_of}
 use Rattle.symbols.specs.declared.answer.Answer.{Answer}

@@ -7,6 +7,7 @@
 // specs/Printed.antt has the line of each answer, specs/Reply.antt the text of each reply, and what its numbers must be to have room:
 // of four digits at most.
 #![tactic(auto)]
+
 ghost use Rattle.std.specs.Prelude.{◌≡◌, ◌+◌, ◌≤◌, length};
 ghost use Rattle.table.specs.Layout.{mem, view};
 ghost use Rattle.text.specs.Puts.{Puts};

@@ -11,6 +11,7 @@
 // What is unusual: a link that does not fit sets the mark `over`, and the loops run out on a graph that stays valid. So there
 // is one place that answers NO-LINKS, in Parse, and none here.
 #![tactic(auto)]
+
 ghost use Rattle.std.specs.Prelude.{◌≡◌, ◌+◌, ◌*◌, ◌<◌, ◌≤◌, length};
 ghost use Rattle.laws.specs.Choice.{Tells};
 ghost use Rattle.table.specs.Layout.{mem, sets_in, view};

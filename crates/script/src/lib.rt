@@ -12,6 +12,7 @@
 // specs/Command.antt what they mean. A line has one meaning (`means-one`, proofs/Meaning.antt), and one command and one buffer tell
 // it (`reads-one`, proofs/OneReading.antt).
 #![tactic(auto)]
+
 mod command; // command.rt: a line to its command
 mod cursor; // cursor.rt: letter, number and line end
 mod numbers; // numbers.rt: the numbers of a line

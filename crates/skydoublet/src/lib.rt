@@ -12,6 +12,7 @@
 //
 // Nothing is decided here: every function hands its arguments to a floor below, and its contract is that floor's own.
 #![tactic(auto)]
+
 mod calls; // calls.rt: 01's calls
 mod reading; // reading.rt: what a caller reads from a table
 mod sizes; // sizes.rt: how long the slices have to be

@@ -1,12 +1,12 @@
 -- What the steps of gathering come to. Assumes nothing.
 use mathlib.Core.Path.{◌≡◌, refl, sym, ap, ◌∙◌, subst}
-use mathlib.Core.Logic.{⊎_elim, inl, inr}
+use mathlib.Core.Logic.{⊎_elim, inl}
 use mathlib.Core.List.{List, Memᴰ as In}
 use Prim.Native.Nat.{ℕ, ◌+◌, ◌≤◌, ◌<◌}
 use native.Mathlib.Decide.{dec_lt}
 use native.Mathlib.Omega.{arith}
 use lib.Dec.{T}
-use lib.ListN.{length, get_or}
+use lib.ListN.{length}
 use Rattle.symbols.specs.Symbol.{START, nonterminal}
 use Rattle.kernels.specs.Write.{write_words}
 use Rattle.kernels.proofs.Write.{length_write, write_in, write_out}
@@ -14,14 +14,14 @@ use Rattle.theory.specs.Table.{Table}
 use Rattle.theory.specs.Parse.{Link, link}
 use Rattle.theory.proofs.Symbols.{is-nonterminal}
 use Rattle.table.specs.Layout.{mem, sets_in, view}
-use Rattle.links.specs.Records.{source, under, position, in_set, link_of, links_in}
+use Rattle.links.specs.Records.{source, under, position, in_set, links_in}
 use Rattle.links.proofs.Listed.{in_links, count as links-count}
 use Rattle.leftmost.specs.Within.{Spans}
 use Rattle.leftmost.specs.Shown.{symbol_of, InHand}
 use Rattle.leftmost.specs.Shown.InHand.{start, linked}
 use Rattle.spans.specs.Area.{area_for, key_of, key_at, symbol_at, start_at, end_at, cost_at, choice_at, first_at, Place}
-use Rattle.spans.specs.Gathered.{Graphed, First, Ordered, Shows, Gathered}
-use Rattle.spans.specs.Steps.{Symbols, Has, Inserts, Readable, symbol_to, key_to, Of, Taken, Begun}
+use Rattle.spans.specs.Gathered.{Graphed, First, Shows, Gathered}
+use Rattle.spans.specs.Steps.{Symbols, Has, Inserts, Readable, symbol_to, Taken, Begun}
 use Rattle.spans.proofs.Reached.{symbol-seen}
 use Rattle.spans.proofs.SameKeys.{SameKeys, same-ascending, same_first, same-shows}
 use Rattle.spans.proofs.Keys.{key_place}

@@ -1,15 +1,15 @@
 -- A key put where it belongs: the search is from the back, room is made from the back, and the keys ascend as before. Assumes nothing.
 use mathlib.Core.Path.{◌≡◌, refl, sym, ap, ◌∙◌, subst}
-use mathlib.Core.Logic.{◌≢◌, ◌⊎◌, inl, inr}
+use mathlib.Core.Logic.{◌≢◌, inl, inr}
 use mathlib.Core.List.{List}
 use Prim.Native.Nat.{ℕ, ◌+◌, ◌-◌, ◌≤◌, ◌<◌}
 use native.Mathlib.Decide.{dec_lt, ℕ_discrete}
 use native.Mathlib.Omega.{arith}
-use lib.ListN.{length, get_or, set, length-set}
+use lib.ListN.{length, set, length-set}
 use lib.Seq.{get_or-set_same, get_or-set_other}
 use Rattle.spans.specs.Area.{key_at}
 use Rattle.spans.specs.Gathered.{Ascending}
-use Rattle.spans.specs.Steps.{Has, Belongs, Opened, Inserts}
+use Rattle.spans.specs.Steps.{Belongs, Opened, Inserts}
 
 -- ---- where the key belongs
 

@@ -1,8 +1,8 @@
 -- A span's place among those in order, found or not there. Assumes nothing.
-use mathlib.Core.Path.{◌≡◌, refl, sym, ap, ◌∙◌, subst}
+use mathlib.Core.Path.{◌≡◌, sym, ap, ◌∙◌}
 use mathlib.Core.Logic.{◌↔◌, ◌⊎◌, inl, inr, ⊎_elim}
 use mathlib.Core.List.{List}
-use Prim.Native.Nat.{ℕ, ◌+◌, ◌*◌, ◌≤◌, ◌<◌, zero-le}
+use Prim.Native.Nat.{ℕ, ◌+◌, ◌≤◌, ◌<◌, zero-le}
 use native.Mathlib.Decide.{dec_lt, ℕ_discrete}
 use native.Mathlib.Omega.{arith}
 use lib.Dec.{T, eqb}
@@ -10,8 +10,8 @@ use Rattle.laws.specs.Choice.{◌and◌}
 use Rattle.laws.specs.Lists.{up_from}
 use Rattle.laws.proofs.Tests.{and_both, eqb_iff}
 use Rattle.laws.proofs.Lists.{first_in, in_up}
-use Rattle.spans.specs.Area.{key_of, key_at, symbol_at, start_at, end_at, first_at, Place, is_place, place_of}
-use Rattle.spans.specs.Gathered.{First, Ascending, Ordered}
+use Rattle.spans.specs.Area.{key_of, key_at, symbol_at, start_at, end_at, Place, is_place, place_of}
+use Rattle.spans.specs.Gathered.{First, Ascending}
 use Rattle.spans.proofs.Keys.{key_place, place_key, one_place}
 
 is-place : (a : List ℕ) (x i j e : ℕ) → T (is_place a x i j e) ↔ Place a e x i j

@@ -2,7 +2,7 @@
 use mathlib.Core.Bool.{Bool, true, false}
 use mathlib.Core.Path.{◌≡◌, refl, sym, ap, ◌∙◌, subst}
 use mathlib.Core.Logic.{◌≢◌}
-use mathlib.Core.List.{List, [], ◌∷◌, ◌++◌, map}
+use mathlib.Core.List.{List, [], ◌∷◌, map}
 use Prim.Native.Nat.{ℕ, zero, suc, ◌+◌, ◌-◌, ◌*◌, ◌/◌, ◌%◌, ◌≤◌, ◌<◌}
 use native.Mathlib.Decide.{dec_lt, ℕ_discrete}
 use native.Mathlib.Omega.{arith}
@@ -16,8 +16,8 @@ use Rattle.kernels.specs.declared.Found.{Found}
 use Rattle.kernels.specs.declared.Found.TheVariants.{At, Nothing}
 use Rattle.kernels.proofs.NextBit.{next-at, next-nothing}
 use Rattle.theory.specs.Table.{RulePlace, Item, rule_at, item, all_items}
-use Rattle.table.specs.Layout.{Mem, mem, sets_in, rules_in, rule_number, rule_seen, kernel_seen, view_rules, view}
-use Rattle.table.specs.Laid.{LaidRules, Within, Formed}
+use Rattle.table.specs.Layout.{mem, sets_in, rules_in, rule_number, rule_seen, kernel_seen, view_rules, view}
+use Rattle.table.specs.Laid.{LaidRules, Formed}
 use Rattle.table.proofs.Read.{rule_read, set_read, right_read, right-length}
 use Rattle.table.proofs.Formed.{laid-rules}
 use Rattle.leftmost.specs.Shown.{before_dot, before_first, symbol_of}

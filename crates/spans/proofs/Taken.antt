@@ -5,19 +5,19 @@ use mathlib.Core.Logic.{⊎_elim}
 use mathlib.Core.List.Memᴰ
 use mathlib.Core.List.Memᴰ.{head as here}
 use mathlib.Core.List.Memᴰ.{tail as there}
-use mathlib.Core.List.{List, [], ◌∷◌, Memᴰ as In}
-use Prim.Native.Nat.{ℕ, suc, ◌+◌, ◌*◌, ◌≤◌, ◌<◌}
+use mathlib.Core.List.{List, ◌∷◌}
+use Prim.Native.Nat.{ℕ, ◌+◌, ◌*◌, ◌≤◌, ◌<◌}
 use native.Mathlib.Numerals.{add-one}
 use native.Mathlib.Omega.{arith}
 use lib.Dec.{T}
-use lib.ListN.{length, get_or}
+use lib.ListN.{get_or}
 use Rattle.laws.proofs.Choice.{yes_of}
 use Rattle.laws.proofs.Tests.{passes, fails}
 use Rattle.symbols.specs.Symbol.{nonterminal}
 use Rattle.theory.specs.Parse.{Link}
 use Rattle.theory.proofs.Symbols.{is-nonterminal}
 use Rattle.links.specs.Records.{source, under, position, in_set, link_of, links_in}
-use Rattle.spans.specs.Area.{key_of, key_at}
+use Rattle.spans.specs.Area.{key_of}
 use Rattle.spans.specs.Steps.{Has, Inserts, Readable, symbol_to, key_to, Takes, Of, Taken}
 
 -- ---- one link

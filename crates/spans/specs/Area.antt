@@ -1,7 +1,7 @@
 -- The lent work area of a derivation, one list of numbers: where each number stands, and what they keep, as a store. A span's place is
 -- its number: at the same place it has its key, its cost and its choice. Behind them stands, of each end, its first place.
 -- Assumes nothing.
-use Rattle.std.specs.Prelude.{Bool, ◌≡◌, List, [], ℕ, ◌+◌, ◌-◌, ◌*◌, ◌/◌, ◌%◌, ◌^◌, ◌<◌, eqb, ltb, length, get_or, set}
+use Rattle.std.specs.Prelude.{Bool, ◌≡◌, List, ℕ, ◌+◌, ◌-◌, ◌*◌, ◌/◌, ◌%◌, ◌^◌, eqb, ltb, length, get_or, set}
 use Rattle.laws.specs.Choice.{◌and◌, when}
 use Rattle.laws.specs.Loops.{tab}
 use Rattle.laws.specs.Lists.{firstIn, up_from}

@@ -1,5 +1,6 @@
 // The work area of a derivation, and the spans of the links in it.
 #![tactic(auto)]
+
 mod area; // area.rt: the numbers of the area, one at a time
 mod finding; // finding.rt: the place of a span
 mod gathering; // gathering.rt: the spans of the links

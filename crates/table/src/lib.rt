@@ -21,6 +21,7 @@
 // model reads (Read), of the start kernel (Starts), of one change after another (Becoming), and that no second list of numbers
 // fits a promise (Once, OneOutcome).
 #![tactic(auto)]
+
 mod bytes; // bytes.rt: a number read as an index, numbers made zero
 mod cells; // cells.rt: marks and targets
 mod rules; // rules.rt: sizes and rules

@@ -7,6 +7,7 @@
 // specs/Text.antt has how a number is spelled, for those who put it and for `script`, which reads it; proofs/Decimal.antt that no two
 // are spelled the same.
 #![tactic(auto)]
+
 ghost use Rattle.std.specs.Prelude.{[], ◌∷◌, ◌+◌, ◌≤◌, ◌<◌, length};
 ghost use Rattle.text.specs.Text.{SPACE, decimal};
 ghost use Rattle.text.specs.Puts.{Puts, digit_of};

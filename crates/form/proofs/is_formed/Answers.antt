@@ -1,6 +1,5 @@
 -- `form::is_formed` meets its contract: its tests are those of `formed`, in that order, once the sizes are in range. Assumes nothing.
 use borrow.Author.Tests.{not-true}
-use borrow.Author.Rules.{rules}
 use Rattle.laws.proofs.Choice.{and_on, and_off, no_of, yes_of, tells_no}
 use Rattle.laws.proofs.Tests.{passes}
 use Rattle.form.specs.Formed.{formed}
@@ -54,13 +53,16 @@ returns-then-not-start_fits c =
     (and_off _ (no_of c.start_fits.ensures c.if-not-start_fits.true-raw))))
 
 pub sets_fit-requires : goal.sets_fit-requires
-sets_fit-requires c = record { sized = 
-  sized _ _ _ c.is_roomy.result
+sets_fit-requires c = record {
+  sized =
+      sized _ _ _ c.is_roomy.result
       c.is_roomy.ensures
-      c.if-not-is_roomy.false-raw; short = 
-  rules-short
+      c.if-not-is_roomy.false-raw;
+  short =
+      rules-short
       c.args.rules.now
-      (passes (yes_of c.all_fit.ensures c.if-not-all_fit.false-raw)) }
+      (passes (yes_of c.all_fit.ensures c.if-not-all_fit.false-raw));
+}
 
 pub returns-then-not-sets_fit : goal.returns-then-not-sets_fit
 unfolding formed

@@ -1,6 +1,5 @@
 -- `is_roomy` meets its contract: each return denies one of the inequalities, and the last has them all. Assumes nothing.
 use native.Mathlib.Omega.{arith}
-use borrow.Author.Rules.{rules}
 use Rattle.form.proofs.is_roomy.Goals as goal
 
 pub returns-then-rules-lt2 : goal.returns-then-rules-lt2

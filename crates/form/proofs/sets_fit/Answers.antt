@@ -1,5 +1,4 @@
 -- `sets_fit` meets its contract: the masks are those of `sets_fit`. Assumes nothing.
-use borrow.Author.Rules.{rules}
 use Rattle.table.specs.Layout.{sets}
 use Rattle.form.proofs.Turns.{sets-whole}
 use Rattle.form.specs.Masks.{named}

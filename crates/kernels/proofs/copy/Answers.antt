@@ -1,6 +1,5 @@
 -- `kernels::copy` meets its contract. The invariant: the words are those at the entry, the first k written. Assumes nothing.
 use mathlib.Core.Path.{◌≡◌, sym}
-use Prim.Native.Nat.{◌-◌}
 use native.Mathlib.Omega.{arith}
 use borrow.Author.Rules.{rules}
 use Rattle.kernels.proofs.Write.{write_none, write_more, write_end}

@@ -1,6 +1,5 @@
 -- `kernels::find` meets its contract. The invariant: the answer is that from set s on. Assumes nothing.
 use mathlib.Core.Path.{sym, ◌∙◌}
-use Prim.Native.Nat.{◌-◌}
 use native.Mathlib.Omega.{arith}
 use Rattle.laws.proofs.Loops.{first-at, first-here, first_on, first-end}
 use Rattle.kernels.specs.Kernel.{find}

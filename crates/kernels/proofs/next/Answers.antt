@@ -1,5 +1,4 @@
 -- `kernels::next` meets its contract. The invariant: there is no bit from `from` up to word i. Assumes nothing.
-use Prim.Native.Nat.{◌-◌}
 use native.Mathlib.Omega.{arith}
 use borrow.Author.Rules.{rules}
 use Rattle.kernels.proofs.NextBit.{none_from, none_more, found_from, found_at}

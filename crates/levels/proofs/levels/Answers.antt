@@ -1,6 +1,5 @@
 -- `levels::levels` meets its contract. The invariant: the list has the ends of the paths of i links. Assumes nothing.
 use mathlib.Core.Path.{refl}
-use Prim.Native.Nat.{◌-◌}
 use native.Mathlib.Omega.{arith}
 use Rattle.levels.proofs.Below.{reached-start, reached-next, reached-end}
 use Rattle.levels.proofs.levels.Goals as goal

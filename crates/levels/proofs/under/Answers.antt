@@ -1,6 +1,5 @@
 -- `levels::under` meets its contract. The invariant: the nodes under the first i of the level are on the other list, and the level is as it was. Assumes nothing.
 use mathlib.Core.Path.{refl, ◌∙◌}
-use Prim.Native.Nat.{◌-◌}
 use native.Mathlib.Omega.{arith}
 use Rattle.levels.proofs.Sparse.{few}
 use Rattle.levels.proofs.Below.{go_start, node-low, go-next, go_end}

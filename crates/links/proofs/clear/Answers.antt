@@ -1,6 +1,5 @@
 -- `links::clear` meets its contract. The invariant: the first i numbers are zero. Assumes nothing.
 use mathlib.Core.Path.{refl}
-use Prim.Native.Nat.{◌-◌}
 use native.Mathlib.Omega.{arith}
 use lib.ListN.{length-set}
 use Rattle.links.proofs.Cleared.{clear_start, clear_next, clear_end}

@@ -1,10 +1,8 @@
 -- `positions::read` meets its contract. The invariant: the steps from the first position reach position p (`At`).
 -- The measure is what is left of the line. Assumes nothing.
 use mathlib.Core.Path.{refl}
-use Prim.Native.Nat.{◌-◌}
 use native.Mathlib.Omega.{arith}
 use Rattle.positions.proofs.Positions.{at_start, at_next, at-end, at_last, token-fits}
-use borrow.Author.Rules.{rules}
 use Rattle.positions.proofs.read.Goals as goal
 
 pub sets_in-sets-requires : goal.sets_in-sets-requires
@@ -12,9 +10,12 @@ sets_in-sets-requires c =
     omega (arith, c.requires.readable.formed.laid.sized.rules)
 
 pub begin-c-requires : goal.begin-c-requires
-begin-c-requires c = record { size_in_bounds = 
-      (c.requires.readable.roomy, (c.requires.readable.fits.links, c.requires.at_len.0)); le_sets = 
-      (omega (arith, c.sets_in-sets.ensures, c.requires.readable.formed.laid.sized.some_sets), omega (arith, c.sets_in-sets.ensures, c.requires.readable.formed.laid.sized.few_sets)) }
+begin-c-requires c = record {
+  size_in_bounds =
+      (c.requires.readable.roomy, (c.requires.readable.fits.links, c.requires.at_len.0));
+  le_sets =
+      (omega (arith, c.sets_in-sets.ensures, c.requires.readable.formed.laid.sized.some_sets), omega (arith, c.sets_in-sets.ensures, c.requires.readable.formed.laid.sized.few_sets));
+}
 
 pub loop-p-init : goal.loop-p-init
 loop-p-init c =
@@ -26,9 +27,12 @@ overflow_cast-line c =
 
 pub advance-a-requires : goal.advance-a-requires
 advance-a-requires c =
-    let k = token-fits _ c.requires.readable.fits.tokens _ c.loop-p-test.true in record { stands = 
-      (c.loop-p.invariant.1.stands, omega (arith, c.loop-p.invariant.0.5, c.requires.at_len.1)); position_bound = 
-      (omega (arith, c.loop-p-test.true, c.requires.readable.fits.short), (k.0, omega arith)) }
+    let k = token-fits _ c.requires.readable.fits.tokens _ c.loop-p-test.true in record {
+      stands =
+          (c.loop-p.invariant.1.stands, omega (arith, c.loop-p.invariant.0.5, c.requires.at_len.1));
+      position_bound =
+          (omega (arith, c.loop-p-test.true, c.requires.readable.fits.short), (k.0, omega arith));
+    }
 
 pub shape_of-rules-in-Ends : goal.shape_of-rules-in-Ends
 shape_of-rules-in-Ends c =
@@ -59,18 +63,17 @@ returns-in-Ends c =
     at-end c.loop-p.invariant.1 c.loop-p-test.true (c.advance-a.ensures.ends _ c.in-Ends.is)
 
 pub loop-p-preserved : goal.loop-p-preserved
-loop-p-preserved c =
-    (
-      (
-        omega (arith, c.loop-p.invariant.0.0),
-        omega (arith, c.loop-p.invariant.0.1),
-        omega (arith, c.loop-p.invariant.0.2),
-        omega (arith, c.loop-p.invariant.0.3),
-        omega (arith, c.loop-p.invariant.0.4),
-        omega (arith, c.loop-p.invariant.0.5),
-      ),
-      at_next c.loop-p.invariant.1 c.loop-p-test.true (c.advance-a.ensures.on _ _ c.in-On.is),
-    )
+loop-p-preserved c = (
+  (
+    omega (arith, c.loop-p.invariant.0.0),
+    omega (arith, c.loop-p.invariant.0.1),
+    omega (arith, c.loop-p.invariant.0.2),
+    omega (arith, c.loop-p.invariant.0.3),
+    omega (arith, c.loop-p.invariant.0.4),
+    omega (arith, c.loop-p.invariant.0.5),
+  ),
+  at_next c.loop-p.invariant.1 c.loop-p-test.true (c.advance-a.ensures.on _ _ c.in-On.is),
+)
 
 pub finish-requires : goal.finish-requires
 finish-requires c =

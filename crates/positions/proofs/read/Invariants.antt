@@ -6,7 +6,6 @@ use lib.ListN.{length}
 use Rattle.table.specs.Layout.{mem}
 use Rattle.links.specs.Records.{graph}
 use Rattle.positions.proofs.Positions.{At}
-use borrow.Author.Rules.{rules}
 use Rattle.positions.proofs.read.Given as goal
 
 abbrev pub invariant-loop-p : goal.invariant-loop-p

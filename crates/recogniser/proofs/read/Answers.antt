@@ -9,9 +9,12 @@ slice_bounds-read-end-2 c =
     part_length _ _ c.requires.roomy
 
 pub read-requires : goal.read-requires
-read-requires c = record { readable = 
-      record { formed = c.requires.formed; roomy = part-roomy _ _ c.requires.roomy; fits = c.requires.fits }; at_len = 
-      (refl, refl) }
+read-requires c = record {
+  readable =
+      record { formed = c.requires.formed; roomy = part-roomy _ _ c.requires.roomy; fits = c.requires.fits };
+  at_len =
+      (refl, refl);
+}
 
 pub returns : goal.returns
 returns c =

@@ -1,5 +1,5 @@
 -- `saturation::has_mark` meets its contract. The invariant: no node below m has the mark. Assumes nothing.
-use Prim.Native.Nat.{◌-◌, ◌*◌}
+use Prim.Native.Nat.{◌*◌}
 use native.Mathlib.Omega.{arith}
 use Rattle.saturation.proofs.Marks.{marked-at, unmarked-next, unmarked-end}
 use Rattle.saturation.proofs.has_mark.Goals as goal

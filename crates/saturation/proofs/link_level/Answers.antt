@@ -1,6 +1,5 @@
 -- `saturation::link_level` meets its contract. The invariant: the first i nodes of the level are linked. Assumes nothing.
 use mathlib.Core.Path.{refl}
-use Prim.Native.Nat.{◌-◌}
 use native.Mathlib.Omega.{arith}
 use Rattle.links.proofs.Chain.{chained}
 use Rattle.levels.proofs.Sparse.{few}

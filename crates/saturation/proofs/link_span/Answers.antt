@@ -1,6 +1,5 @@
 -- `saturation::link_span` meets its contract. The invariant: the nodes below m are linked. Assumes nothing.
 use mathlib.Core.Path.{refl}
-use Prim.Native.Nat.{◌-◌}
 use native.Mathlib.Omega.{arith}
 use Rattle.saturation.proofs.Does.{span-start, span-next, span-end}
 use Rattle.saturation.proofs.link_span.Goals as goal

@@ -1,5 +1,4 @@
 -- `saturation::lowest` meets its contract. The invariant: `best` is the lowest of the nodes below m. Assumes nothing.
-use Prim.Native.Nat.{◌-◌}
 use native.Mathlib.Omega.{arith}
 use Rattle.saturation.proofs.Marks.{lowest_start, lowest-next, lowest-end}
 use Rattle.saturation.proofs.lowest.Goals as goal

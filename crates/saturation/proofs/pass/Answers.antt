@@ -1,6 +1,5 @@
 -- `saturation::pass` meets its contract. The invariant: the nodes below n are done. Assumes nothing.
 use mathlib.Core.Path.{refl}
-use Prim.Native.Nat.{◌-◌}
 use native.Mathlib.Omega.{arith}
 use Rattle.saturation.proofs.Works.{all_start, all-next, all_end}
 use Rattle.saturation.proofs.pass.Goals as goal

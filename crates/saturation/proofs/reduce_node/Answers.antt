@@ -1,6 +1,5 @@
 -- `saturation::reduce_node` meets its contract. The invariant: the reductions below r are done, and r is the next, or 128. Assumes nothing.
 use mathlib.Core.Path.{refl}
-use Prim.Native.Nat.{◌-◌}
 use native.Mathlib.Omega.{arith}
 use Rattle.links.proofs.Chain.{chained, node-inside}
 use Rattle.saturation.proofs.Works.{bit_now, node-start, node-next, node_end}

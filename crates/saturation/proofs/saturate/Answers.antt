@@ -1,6 +1,5 @@
 -- `saturation::saturate` meets its contract. The invariant: passes so far. What is left of the pool falls with each but the last. Assumes nothing.
 use mathlib.Core.Path.{refl}
-use Prim.Native.Nat.{◌-◌}
 use native.Mathlib.Omega.{arith}
 use Rattle.saturation.proofs.Passed.{pass_start, pass_next, pass_over, pass_last, pass_less}
 use Rattle.saturation.proofs.saturate.Goals as goal

@@ -1,14 +1,9 @@
 -- `unexpand_all` meets its contract. The invariant: the rows below s are done. Assumes nothing.
-use mathlib.Core.Path.{◌≡◌, refl, sym, ap, ◌∙◌}
-use Prim.Native.Nat.{ℕ, ◌≤◌, ◌-◌}
+use mathlib.Core.Path.{refl, sym, ap, ◌∙◌}
 use native.Mathlib.Omega.{arith}
 use borrow.Author.Rules.{rules}
-use lib.ListN.{length}
-use Rattle.laws.specs.Loops.{up_to}
 use Rattle.laws.proofs.Loops.{up_to-zero, up_to-more, up_to-end}
-use Rattle.table.specs.Layout.{Sets}
 use Rattle.changes.specs.Touch.{unexpand_if, unexpand_all}
-use Rattle.changes.proofs.touch.unexpand_all.Invariants.{Inv}
 use Rattle.changes.proofs.touch.unexpand_all.Goals as goal
 
 pub loop-s-init : goal.loop-s-init
@@ -20,7 +15,6 @@ loop-s-preserved c = record {
   cells-long = omega arith;
   words_long = omega arith;
   so_far = c.unexpand_if.ensures ∙ ap (unexpand_if _ _) c.loop-s.invariant.so_far ∙ sym (up_to-more _ _ _);
-
 }
 
 pub returns : goal.returns

@@ -1,10 +1,8 @@
 -- `find` meets its contract. The invariant: the answer is that from number r on. Assumes nothing.
 use mathlib.Core.Path.{sym, ◌∙◌}
-use Prim.Native.Nat.{◌-◌}
 use native.Mathlib.Omega.{arith}
 use borrow.Author.Rules.{rules}
 use Rattle.laws.proofs.Loops.{first-start, first-here, first_on, first-end}
-use Rattle.checks.specs.Find.{is_at}
 use Rattle.checks.proofs.find.find.Goals as goal
 
 pub loop-r-init : goal.loop-r-init

@@ -1,6 +1,4 @@
 -- `is_full` meets its contract. The invariant: every number below r is current. Assumes nothing.
-use mathlib.Core.Bool.{true}
-use Prim.Native.Nat.{◌-◌}
 use native.Mathlib.Omega.{arith}
 use borrow.Author.Rules.{rules}
 use Rattle.laws.proofs.Loops.{all_none, all_more, all_stops, all_end}

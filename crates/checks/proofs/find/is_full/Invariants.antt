@@ -2,7 +2,6 @@
 use mathlib.Core.Bool.{true}
 use mathlib.Core.Path.{◌≡◌}
 use Prim.Native.Nat.{◌≤◌, ◌-◌}
-use borrow.Author.Rules.{rules}
 use Rattle.laws.specs.Loops.{all_below}
 use Rattle.checks.specs.Find.{has_state}
 use Rattle.checks.proofs.find.is_full.Given as goal

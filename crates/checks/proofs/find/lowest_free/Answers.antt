@@ -1,6 +1,5 @@
 -- `lowest_free` meets its contract. The invariant: the answer is that from number r on. Assumes nothing.
 use mathlib.Core.Path.{◌∙◌}
-use Prim.Native.Nat.{◌-◌}
 use native.Mathlib.Omega.{arith}
 use borrow.Author.Rules.{rules}
 use Rattle.laws.proofs.Loops.{first-start, first-here, first_on, first-end}

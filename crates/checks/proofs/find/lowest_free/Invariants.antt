@@ -1,7 +1,6 @@
 -- `lowest_free` meets its contract. The invariant: the answer is that from number r on. Assumes nothing.
 use mathlib.Core.Path.{◌≡◌}
 use Prim.Native.Nat.{◌≤◌, ◌-◌}
-use borrow.Author.Rules.{rules}
 use Rattle.laws.proofs.Loops.{firstFrom}
 use Rattle.table.specs.Layout.{rules_in}
 use Rattle.checks.specs.Find.{has_state, lowest}

@@ -1,6 +1,5 @@
 -- `closure::item::after` meets its contract. Below the eighth dot the place is read, used or not; at it no right side goes on. Assumes nothing.
 use native.Mathlib.Omega.{arith}
-use borrow.Author.Rules.{rules}
 use Rattle.closure.proofs.Rules.{after_read, after_last}
 use Rattle.closure.proofs.item.after.Goals as goal
 

@@ -1,7 +1,6 @@
 -- `closure::item::is_current_rule_of` meets its contract. The two tests are those of the model, in its order. Assumes nothing.
 use mathlib.Core.Path.{sym, ap, ◌∙◌}
 use borrow.Author.Tests.{eq-eqb, ne_eqb}
-use borrow.Author.Rules.{rules}
 use lib.Dec.{eqb}
 use Rattle.laws.proofs.Choice.{and_on, and_off}
 use Rattle.closure.specs.Item.{current_rule_of}

@@ -1,5 +1,4 @@
 -- `closure::item::left` meets its contract. The left symbol is the number that is read. Assumes nothing.
-use borrow.Author.Rules.{rules}
 use Rattle.closure.proofs.Rules.{left_read}
 use Rattle.closure.proofs.item.left.Goals as goal
 

@@ -1,6 +1,5 @@
 -- `closure::rounds::add_rules` meets its contract. The invariant: the rules below r are added. Assumes nothing.
 use mathlib.Core.Path.{sym, ap, ◌∙◌}
-use Prim.Native.Nat.{◌-◌}
 use native.Mathlib.Omega.{arith}
 use borrow.Author.Rules.{rules}
 use lib.ListN.{length}

@@ -1,7 +1,6 @@
 -- `closure::rounds::add_rules` meets its contract. The invariant: the rules below r are added. Assumes nothing.
 use mathlib.Core.Path.{◌≡◌}
 use Prim.Native.Nat.{◌-◌, ◌≤◌}
-use borrow.Author.Rules.{rules}
 use lib.ListN.{length}
 use Rattle.laws.specs.Loops.{up_to}
 use Rattle.table.specs.Layout.{rules_in, view_rules}

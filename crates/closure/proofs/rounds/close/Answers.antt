@@ -1,7 +1,6 @@
 -- `closure::rounds::close` meets its contract. The invariant: the closure has grown from the kernel, and n is how many items it
 -- has. Each round but the last adds one. Assumes nothing.
 use mathlib.Core.Path.{◌≡◌, refl, sym, ◌∙◌}
-use Prim.Native.Nat.{◌-◌}
 use native.Mathlib.Omega.{arith}
 use borrow.Author.Rules.{rules}
 use lib.ListN.{length}

@@ -2,7 +2,6 @@
 -- has. Each round but the last adds one. Assumes nothing.
 use mathlib.Core.Path.{◌≡◌}
 use Prim.Native.Nat.{◌-◌}
-use borrow.Author.Rules.{rules}
 use Rattle.kernels.specs.Kernel.{items}
 use Rattle.closure.specs.UnderWay.{Grew}
 use Rattle.closure.proofs.rounds.close.Given as goal

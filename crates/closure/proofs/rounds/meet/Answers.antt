@@ -3,7 +3,6 @@
 use mathlib.Core.Path.{◌≡◌, sym, ap, subst, ◌∙◌}
 use mathlib.Core.Bool.{Bool, true}
 use borrow.Author.Tests.{eqb-true}
-use borrow.Author.Rules.{rules}
 use lib.Dec.{T}
 use Rattle.laws.specs.Loops.{up_to}
 use Rattle.laws.proofs.Choice.{no_of, yes_of}
@@ -28,7 +27,7 @@ has-requires c = met_room c.requires.1 _ (passed (yes_of c.is_nonterminal.ensure
 pub returns-then-has : goal.returns-then-has
 returns-then-has c =
     let again = met_again c.args.item c.requires.1
-        (ap (has c.args.met.now 0) (sym c.after-b.ensures) ∙ eqb-true _ _ (sym c.has.ensures ∙ c.if-has.true)) in
+    (ap (has c.args.met.now 0) (sym c.after-b.ensures) ∙ eqb-true _ _ (sym c.has.ensures ∙ c.if-has.true)) in
     record { grew = again.0; met = again.1 }
 
 pub put-requires : goal.put-requires
@@ -38,6 +37,6 @@ pub returns : goal.returns
 returns c =
     let stands = passed (ap nonterminal (sym c.after-b.ensures) ∙ yes_of c.is_nonterminal.ensures c.if-not-is_nonterminal.false-raw) in
     let new = met-new c.args.rules.now c.args.closure.now c.args.met.now c.requires.0 c.requires.1 c.args.item c.requires.2 c.requires.3 stands _ _
-        (c.add_rules.ensures ∙ ap (λ x. up_to (rules_in c.args.rules.now) (put_rule (view_rules c.args.rules.now) x) c.args.closure.now) c.after-b.ensures)
-        (c.put.ensures ∙ ap (put c.args.met.now 0) c.after-b.ensures) in
+    (c.add_rules.ensures ∙ ap (λ x. up_to (rules_in c.args.rules.now) (put_rule (view_rules c.args.rules.now) x) c.args.closure.now) c.after-b.ensures)
+    (c.put.ensures ∙ ap (put c.args.met.now 0) c.after-b.ensures) in
     record { grew = new.0; met = new.1 }

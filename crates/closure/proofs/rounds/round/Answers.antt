@@ -1,7 +1,6 @@
 -- `closure::rounds::round` meets its contract. The invariant: the closure has grown, and the non-terminals after the items below
 -- `from` are met. Assumes nothing.
 use mathlib.Core.Path.{sym, ◌∙◌}
-use Prim.Native.Nat.{◌-◌}
 use native.Mathlib.Nat.{not-suc-le-zero}
 use native.Mathlib.Omega.{arith}
 use borrow.Author.Rules.{rules}

@@ -1,7 +1,6 @@
 -- `closure::rounds::round` meets its contract. The invariant: the closure has grown, and the non-terminals after the items below
 -- `from` are met. Assumes nothing.
 use Prim.Native.Nat.{◌-◌, ◌≤◌}
-use borrow.Author.Rules.{rules}
 use Rattle.closure.specs.UnderWay.{Grew, MetBelow}
 use Rattle.closure.proofs.rounds.round.Given as goal
 

@@ -1,8 +1,6 @@
 -- `closure::walks::completed_items` meets its contract. The invariant: words and mark are those of the items below `from`. Assumes nothing.
 use mathlib.Core.Path.{refl, sym}
-use Prim.Native.Nat.{◌-◌}
 use native.Mathlib.Omega.{arith}
-use borrow.Author.Rules.{rules}
 use Rattle.table.specs.Layout.{rules_in}
 use Rattle.kernels.proofs.Puts.{has-zero, length-put_if}
 use Rattle.kernels.proofs.KernelWalk.{walk_start, walk_turn, walk_end, walk_length}

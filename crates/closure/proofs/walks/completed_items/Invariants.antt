@@ -1,6 +1,5 @@
 -- `closure::walks::completed_items` meets its contract. The invariant: words and mark are those of the items below `from`. Assumes nothing.
 use Prim.Native.Nat.{◌-◌}
-use borrow.Author.Rules.{rules}
 use Rattle.table.specs.Layout.{view_rules}
 use Rattle.closure.specs.Walk.{put_reduction, accepts_too}
 use Rattle.kernels.proofs.KernelWalk.{Walked}

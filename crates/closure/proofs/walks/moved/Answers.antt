@@ -1,10 +1,7 @@
 -- `closure::walks::moved` meets its contract. The invariant: the words hold the items below `from`, moved. Assumes nothing.
 use mathlib.Core.Path.{refl, sym}
-use Prim.Native.Nat.{◌-◌}
 use native.Mathlib.Omega.{arith}
-use borrow.Author.Rules.{rules}
 use Rattle.table.specs.Layout.{rules_in}
-use Rattle.closure.specs.Walk.{put_moved}
 use Rattle.kernels.proofs.Puts.{has-zero, length-put_if}
 use Rattle.kernels.proofs.KernelWalk.{walk_start, walk_turn, walk_end, walk_length}
 use Rattle.closure.proofs.Turn.{found, item-inside}

@@ -1,6 +1,5 @@
 -- `closure::walks::moved` meets its contract. The invariant: the words hold the items below `from`, moved. Assumes nothing.
 use Prim.Native.Nat.{◌-◌}
-use borrow.Author.Rules.{rules}
 use Rattle.table.specs.Layout.{view_rules}
 use Rattle.closure.specs.Walk.{put_moved}
 use Rattle.kernels.proofs.KernelWalk.{Walked}

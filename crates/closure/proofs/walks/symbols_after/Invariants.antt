@@ -1,6 +1,5 @@
 -- `closure::walks::symbols_after` meets its contract. The invariant: the words hold the symbols after the items below `from`. Assumes nothing.
 use Prim.Native.Nat.{◌-◌}
-use borrow.Author.Rules.{rules}
 use Rattle.table.specs.Layout.{view_rules}
 use Rattle.closure.specs.Walk.{put_after}
 use Rattle.kernels.proofs.KernelWalk.{Walked}

@@ -1,5 +1,4 @@
 -- `collection::reach::meet` meets its contract. Assumes nothing.
-use Rattle.kernels.specs.Kernel.{has}
 use native.Mathlib.Omega.{arith}
 use Rattle.collection.proofs.Queue.{is-marked, not_marked, adds_known, new-fits, adds-new}
 use Rattle.collection.proofs.reach.meet.Goals as goal

@@ -1,9 +1,8 @@
 -- `collection::reach::reach` meets its contract. The invariant: what is marked is reached, and the first i sets of the queue are
 -- scanned; a set is queued once, so the queue never holds more than 256. Assumes nothing.
 use mathlib.Core.Path.{refl}
-use Prim.Native.Nat.{◌-◌}
 use native.Mathlib.Omega.{arith}
-use Rattle.collection.proofs.Scanned.{scan_begin, next-set, next_row, scan_next, scan_end, queue_short}
+use Rattle.collection.proofs.Scanned.{scan_begin, next_row, scan_next, scan_end, queue_short}
 use Rattle.collection.proofs.reach.reach.Goals as goal
 
 pub loop-i-init : goal.loop-i-init

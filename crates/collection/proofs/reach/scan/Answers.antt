@@ -1,6 +1,5 @@
 -- `collection::reach::scan` meets its contract. The invariant: the targets on the first x symbols are marked and queued. Assumes nothing.
 use mathlib.Core.Path.{◌≡◌}
-use Prim.Native.Nat.{◌-◌}
 use native.Mathlib.Nat.{not-suc-le-zero}
 use native.Mathlib.Omega.{arith}
 use Rattle.collection.proofs.Queue.{adds-zeros, adds-bare, adds-next, adds-end}

@@ -1,6 +1,5 @@
 -- `collection::room::free_sets` meets its contract. The invariant: how many of the first s sets are free. Assumes nothing.
 use mathlib.Core.Path.{◌≡◌, refl}
-use Prim.Native.Nat.{◌-◌}
 use native.Mathlib.Omega.{arith}
 use Rattle.collection.proofs.Counted.{free_none, free_more, free_end, free_fits}
 use Rattle.collection.proofs.room.free_sets.Goals as goal

@@ -1,6 +1,5 @@
 -- `collection::room::lowest_free` meets its contract. The invariant: the answer is that from set s on. Assumes nothing.
 use mathlib.Core.Path.{refl}
-use Prim.Native.Nat.{◌-◌}
 use Rattle.laws.proofs.Loops.{first-here, first_on, first-end}
 use Rattle.collection.proofs.Counted.{is_free_lem, not_free, lowest-end}
 use Rattle.collection.proofs.room.lowest_free.Goals as goal

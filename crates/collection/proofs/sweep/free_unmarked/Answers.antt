@@ -1,6 +1,5 @@
 -- `collection::sweep::free_unmarked` meets its contract. The invariant: the first s sets are done. Assumes nothing.
 use mathlib.Core.Path.{◌≡◌, sym, ap, ◌∙◌}
-use Prim.Native.Nat.{◌-◌}
 use native.Mathlib.Omega.{arith}
 use Rattle.laws.proofs.Loops.{up_to-zero, up_to-more, up_to-end}
 use Rattle.collection.specs.Sweep.{free_unmarked}

@@ -4,7 +4,6 @@ use Prim.Native.Nat.{◌-◌, ◌≤◌}
 use lib.ListN.{length}
 use Rattle.laws.specs.Loops.{up_to}
 use Rattle.collection.specs.Sweep.{free_withdrawn}
-use borrow.Author.Rules.{rules}
 use Rattle.collection.proofs.sweep.free_withdrawn.Given as goal
 
 abbrev pub invariant-loop-r : goal.invariant-loop-r

@@ -1,6 +1,5 @@
 -- `add` meets its contract. Assumes nothing.
 use mathlib.Core.Path.{refl}
-use borrow.Author.Rules.{rules}
 use Rattle.theory.specs.Calls.{add}
 use Rattle.desk.proofs.Bounds.{add_digits}
 use Rattle.desk.proofs.Rights.{right_is}

@@ -1,6 +1,5 @@
 -- `delete` meets its contract. Assumes nothing.
 use mathlib.Core.Path.{refl}
-use borrow.Author.Rules.{rules}
 use Rattle.theory.specs.Calls.{delete}
 use Rattle.desk.proofs.Bounds.{delete_digits}
 use Rattle.desk.proofs.Rights.{right_is}

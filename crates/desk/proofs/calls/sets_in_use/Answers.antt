@@ -3,7 +3,6 @@ use mathlib.Core.Path.{◌≡◌, sym}
 use mathlib.Core.List.{List, []}
 use Prim.Native.Nat.{ℕ}
 use native.Mathlib.Omega.{arith}
-use borrow.Author.Rules.{rules}
 use Rattle.theory.specs.Table.{in_use}
 use Rattle.table.specs.Layout.{mem, view}
 use Rattle.desk.proofs.InUse.{use_small}

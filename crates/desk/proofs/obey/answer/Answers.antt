@@ -1,6 +1,5 @@
 -- `answer` meets its contract. Assumes nothing.
 use native.Mathlib.Omega.{arith}
-use borrow.Author.Rules.{rules}
 use Rattle.desk.proofs.obey.answer.Goals as goal
 
 pub put-end-requires : goal.put-end-requires

@@ -1,7 +1,6 @@
 -- `obey` meets its contract. Assumes nothing.
 use mathlib.Core.Path.{refl, ap}
 use native.Mathlib.Omega.{arith}
-use borrow.Author.Rules.{rules}
 use Rattle.script.specs.Command.{symbols_of}
 use Rattle.desk.specs.Obeys.Obeys.{makes, adds, deletes, parses, collects, restarts, lists, skips}
 use Rattle.desk.proofs.Obeyed.{as_told, kept}

@@ -2,7 +2,6 @@
 use Rattle.table.specs.Layout.{view_rules}
 use native.Mathlib.Omega.{arith}
 use Rattle.expansion.proofs.Copied.{copied_within, copied_closure}
-use borrow.Author.Rules.{rules}
 use Rattle.expansion.proofs.grow.closure_of.Goals as goal
 
 pub close-requires : goal.close-requires

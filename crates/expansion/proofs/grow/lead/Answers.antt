@@ -1,5 +1,4 @@
 -- `expansion::grow::lead` meets its contract. The invariant: sets and row are those of the symbols below `from`. Assumes nothing.
-use Prim.Native.Nat.{◌-◌}
 use native.Mathlib.Omega.{arith}
 use Rattle.expansion.proofs.Rest.{least}
 use Rattle.expansion.proofs.Lead.{lead_start, lead-aims, lead-turn, lead-end}

@@ -4,7 +4,6 @@ use mathlib.Core.Path.{◌≡◌}
 use lib.ListN.{length}
 use Rattle.table.specs.Layout.{sets}
 use Rattle.expansion.proofs.Lead.{LeadFrom}
-use borrow.Author.Rules.{rules}
 use Rattle.expansion.proofs.grow.lead.Given as goal
 
 abbrev pub invariant-loop-x : goal.invariant-loop-x

@@ -1,6 +1,5 @@
 -- `expansion::grow::put_row` meets its contract. The invariant: the cells are those at the entry, the first k written. Assumes nothing.
 use mathlib.Core.Path.{◌≡◌, sym}
-use Prim.Native.Nat.{◌-◌}
 use native.Mathlib.Omega.{arith}
 use Rattle.kernels.proofs.Write.{write_none, write_more, write_end}
 use borrow.Author.Rules.{rules}

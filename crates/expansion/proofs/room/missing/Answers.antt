@@ -1,10 +1,8 @@
 -- `expansion::room::missing` meets its contract. The invariant: n of the symbols below `from` lead to a kernel that no set has.
 -- Assumes nothing.
-use Prim.Native.Nat.{◌-◌}
 use native.Mathlib.Omega.{arith}
 use Rattle.expansion.proofs.Rest.{least}
 use Rattle.expansion.proofs.Missing.{one-small, count_start, count-above, count_turn, count-end}
-use borrow.Author.Rules.{rules}
 use Rattle.expansion.proofs.room.missing.Goals as goal
 
 pub loop-x-init : goal.loop-x-init

@@ -2,7 +2,6 @@
 -- Assumes nothing.
 use Prim.Native.Nat.{◌-◌}
 use Rattle.expansion.proofs.Missing.{Counted}
-use borrow.Author.Rules.{rules}
 use Rattle.expansion.proofs.room.missing.Given as goal
 
 abbrev pub invariant-loop-x : goal.invariant-loop-x

@@ -1,6 +1,5 @@
 -- `masks::put_items` meets its contract. The invariant: the items with a dot below d are put. Assumes nothing.
 use mathlib.Core.Path.{◌≡◌, sym, ap, ◌∙◌}
-use Prim.Native.Nat.{◌-◌}
 use native.Mathlib.Omega.{arith}
 use borrow.Author.Rules.{rules}
 use Rattle.laws.proofs.Loops.{up_to-zero, up_to-more, up_to-end}

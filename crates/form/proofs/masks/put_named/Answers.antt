@@ -1,6 +1,5 @@
 -- `masks::put_named` meets its contract. The invariant: the bits of the rules below r are put. Assumes nothing.
 use mathlib.Core.Path.{◌≡◌, sym, ap, ◌∙◌}
-use Prim.Native.Nat.{◌-◌}
 use native.Mathlib.Omega.{arith}
 use borrow.Author.Rules.{rules}
 use Rattle.laws.proofs.Loops.{up_to-zero, up_to-more, up_to-end}

@@ -1,7 +1,6 @@
 -- `masks::put_named` meets its contract. The invariant: the bits of the rules below r are put. Assumes nothing.
 use mathlib.Core.Path.{◌≡◌}
 use Prim.Native.Nat.{◌-◌, ◌≤◌}
-use borrow.Author.Rules.{rules}
 use lib.ListN.{length}
 use Rattle.laws.specs.Loops.{up_to}
 use Rattle.form.specs.Masks.{put_named}

@@ -2,7 +2,6 @@
 use mathlib.Core.Path.{◌≡◌}
 use mathlib.Core.Bool.{true}
 use Prim.Native.Nat.{◌-◌, ◌≤◌}
-use borrow.Author.Rules.{rules}
 use Rattle.laws.specs.Loops.{all_below}
 use Rattle.form.specs.Rules.{rule_alone}
 use Rattle.form.proofs.rules.all_differ.Given as goal

@@ -1,7 +1,6 @@
 -- `rules::is_alone` meets its contract. The invariant: the rules below q differ from r. Assumes nothing.
 use mathlib.Core.Path.{◌≡◌, refl, ap, ap₂, ◌∙◌}
-use mathlib.Core.Bool.{true, not}
-use Prim.Native.Nat.{◌-◌}
+use mathlib.Core.Bool.{not}
 use native.Mathlib.Omega.{arith}
 use borrow.Author.Tests.{eq-eqb, ne_eqb}
 use borrow.Author.Rules.{rules}

@@ -1,6 +1,5 @@
 -- `sets::all_fit` meets its contract. The invariant: the sets below s fit. Assumes nothing.
 use mathlib.Core.Path.{◌≡◌}
-use Prim.Native.Nat.{◌-◌}
 use native.Mathlib.Omega.{arith}
 use borrow.Author.Rules.{rules}
 use Rattle.laws.proofs.Loops.{all_none, all_passes, all_fails, all_end}

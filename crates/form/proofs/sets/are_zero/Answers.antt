@@ -1,6 +1,6 @@
 -- `sets::are_zero` meets its contract. The invariant: `any` is zero exactly if the first k cells are. Assumes nothing.
 use mathlib.Core.Path.{◌≡◌, sym, ap, ◌∙◌}
-use Prim.Native.Nat.{◌+◌, ◌-◌}
+use Prim.Native.Nat.{◌+◌}
 use native.Mathlib.Omega.{arith}
 use borrow.Author.Rules.{rules}
 use lib.Dec.{eqb}

@@ -1,6 +1,6 @@
 -- `put_entries` meets its contract. The loop's invariant: the entries of the sets below s are put. Assumes nothing.
 use mathlib.Core.Path.{◌≡◌, ap}
-use Prim.Native.Nat.{◌-◌, zero-le}
+use Prim.Native.Nat.{zero-le}
 use native.Mathlib.Omega.{arith}
 use Rattle.text.proofs.Putting.{puts_as}
 use Rattle.listing.specs.Walk.{listed, used, entry_of}

@@ -1,6 +1,5 @@
 -- `put_kernel` meets its contract. The loop's invariant: the items below `from` are put. Assumes nothing.
 use mathlib.Core.Path.{◌∙◌}
-use Prim.Native.Nat.{◌-◌}
 use native.Mathlib.Omega.{arith}
 use Rattle.kernels.proofs.NextBit.{next-at, next-nothing}
 use Rattle.text.proofs.Putting.{puts_then}

@@ -1,6 +1,5 @@
 -- `put_reductions` meets its contract. The loop's invariant: the rules below `from` are put. Assumes nothing.
 use mathlib.Core.Path.{◌∙◌}
-use Prim.Native.Nat.{◌-◌}
 use native.Mathlib.Omega.{arith}
 use Rattle.kernels.proofs.NextBit.{next-at, next-nothing}
 use Rattle.text.proofs.Putting.{puts_then}

@@ -6,7 +6,6 @@ use lib.ListN.{length}
 use Rattle.table.specs.Layout.{mem, view}
 use Rattle.links.specs.Records.{graph, links_of}
 use Rattle.positions.proofs.Turns.{turns_left}
-use borrow.Author.Rules.{rules}
 use Rattle.positions.proofs.settle.settle.Given as goal
 
 abbrev pub invariant-loop-d : goal.invariant-loop-d

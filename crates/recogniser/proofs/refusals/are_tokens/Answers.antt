@@ -1,6 +1,4 @@
 -- `recogniser::refusals::are_tokens` meets its contract. The invariant: the tokens so far are terminals. Assumes nothing.
-use mathlib.Core.Bool.{true}
-use Prim.Native.Nat.{◌-◌}
 use native.Mathlib.Omega.{arith}
 use Rattle.laws.proofs.Loops.{all_none, all_end, all_fails, all_passes}
 use Rattle.theory.specs.Calls.{all_tokens}

@@ -1,8 +1,7 @@
 -- `put_listing` meets its contract. Assumes nothing.
 use mathlib.Core.Path.{◌≡◌, ap, ◌∙◌}
-use Prim.Native.Nat.{◌-◌, zero-le}
+use Prim.Native.Nat.{zero-le}
 use native.Mathlib.Omega.{arith}
-use borrow.Author.Rules.{rules}
 use Rattle.table.specs.Layout.{sets_in, mem, view}
 use Rattle.text.proofs.Putting.{puts_then, puts_as}
 use Rattle.listing.specs.Printed.{body}
@@ -19,30 +18,31 @@ pub loop-s-init : goal.loop-s-init
 loop-s-init c = (omega arith, omega arith, put-none)
 
 pub put_body-end-requires : goal.put_body-end-requires
-put_body-end-requires c = record { laid = 
-      c.requires.laid; s_bound = 
-      (
-        omega (arith, c.loop-s-test.true, c.sets_in-sets.ensures),
-        omega (
-          arith,
-          c.loop-s-test.true,
-          c.sets_in-sets.ensures,
-          c.requires.laid.sized.cells,
-          c.requires.cells_len_bound,
-          c.loop-s.invariant.1,
-          c.put_contents-end.ensures.0,
-          c.loop-s.invariant.2.same_length,
-          c.put_contents-end.auto.out,
-        ),
-      ) }
+put_body-end-requires c = record {
+  laid =
+      c.requires.laid;
+  s_bound = (
+    omega (arith, c.loop-s-test.true, c.sets_in-sets.ensures),
+    omega (
+      arith,
+      c.loop-s-test.true,
+      c.sets_in-sets.ensures,
+      c.requires.laid.sized.cells,
+      c.requires.cells_len_bound,
+      c.loop-s.invariant.1,
+      c.put_contents-end.ensures.0,
+      c.loop-s.invariant.2.same_length,
+      c.put_contents-end.auto.out,
+    ),
+  );
+}
 
 pub loop-s-preserved : goal.loop-s-preserved
-loop-s-preserved c =
-    (
-      omega arith,
-      omega (arith, c.put_body-end.ensures.0, c.loop-s.invariant.1),
-      put-turn c.loop-s.invariant.2 c.put_body-end.auto.out zero-le c.put_body-end.ensures.1,
-    )
+loop-s-preserved c = (
+  omega arith,
+  omega (arith, c.put_body-end.ensures.0, c.loop-s.invariant.1),
+  put-turn c.loop-s.invariant.2 c.put_body-end.auto.out zero-le c.put_body-end.ensures.1,
+)
 
 pub shape_of-out : goal.shape_of-out
 shape_of-out c = c.loop-s.invariant.2.same_length ∙ c.put_contents-end.auto.out

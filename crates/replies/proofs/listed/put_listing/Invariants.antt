@@ -1,6 +1,5 @@
 -- `put_listing` meets its contract. Assumes nothing.
 use Prim.Native.Nat.{◌+◌, ◌-◌, ◌*◌, ◌≤◌}
-use borrow.Author.Rules.{rules}
 use Rattle.table.specs.Layout.{mem, view}
 use Rattle.listing.specs.Printed.{body}
 use Rattle.listing.specs.Walk.{used}

@@ -1,7 +1,5 @@
 -- `all_bytes` meets its contract. The loop's invariant: the numbers passed are bytes. Assumes nothing.
 use mathlib.Core.Path.{refl, sym}
-use mathlib.Core.Bool.{true}
-use Prim.Native.Nat.{◌-◌}
 use native.Mathlib.Omega.{arith}
 use borrow.Author.Tests.{le-leb, lt-leb}
 use Rattle.laws.proofs.Loops.{all_none, all_passes, all_fails, all_end}

@@ -1,7 +1,7 @@
 -- `copy` meets its contract. The loop's invariant: i numbers stand in the buffer, and it is as it was beyond them. Assumes nothing.
 use mathlib.Core.Path.{refl, ap, ◌∙◌, ◌≡◌}
 use mathlib.Core.List.{◌++◌}
-use Prim.Native.Nat.{◌<◌, ◌-◌}
+use Prim.Native.Nat.{◌<◌}
 use native.Mathlib.Nat.{lt_of_le_of_lt}
 use native.Mathlib.Omega.{arith}
 use lib.Dec.{lit<}

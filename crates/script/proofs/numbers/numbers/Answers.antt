@@ -1,7 +1,6 @@
 -- `numbers` meets its contract. The loop's invariant: n numbers are passed, in the only way in which the text can be read as
 -- numbers. Assumes nothing.
 use mathlib.Core.Path.{refl}
-use Prim.Native.Nat.{◌-◌}
 use native.Mathlib.Omega.{arith}
 use lib.ListN.{length-set}
 use Rattle.script.proofs.Reading.{number_of_lem, end_of, goes_on}

@@ -1,5 +1,5 @@
 use mathlib.Core.Path.{sym, subst, ◌∙◌}
-use Prim.Native.Nat.{◌+◌, ◌-◌}
+use Prim.Native.Nat.{◌+◌}
 use native.Mathlib.Omega.{arith}
 use Rattle.spans.specs.Gathered.{First}
 use Rattle.spans.proofs.Placed.{under-start, under_more, found_here, found-past, found-end}

@@ -1,4 +1,3 @@
-use Prim.Native.Nat.{◌-◌}
 use native.Mathlib.Omega.{arith}
 use Rattle.spans.proofs.Begun.{pass_one, pass_found, pass_all}
 use Rattle.spans.proofs.firsts.first_from.Goals as goal

@@ -1,4 +1,3 @@
-use Prim.Native.Nat.{◌-◌}
 use native.Mathlib.Omega.{arith}
 use Rattle.spans.proofs.SameKeys.{other_way, same-ascending, same-passed, same_first}
 use Rattle.spans.proofs.Begun.{pass_start, pass_on, begun-start, begun_keys, begun-next, begun-end}

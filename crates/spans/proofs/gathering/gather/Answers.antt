@@ -4,7 +4,6 @@ use native.Mathlib.Omega.{arith}
 use Rattle.spans.proofs.Reached.{formed-kernels}
 use Rattle.spans.proofs.SameKeys.{same-ascending}
 use Rattle.spans.proofs.Gathered.{cleared_keys, line_low, few-links, few_taken, few_spans, readable, gathered}
-use borrow.Author.Rules.{rules}
 use Rattle.spans.proofs.gathering.gather.Goals as goal
 
 pub symbols_of-symbols-requires : goal.symbols_of-symbols-requires

@@ -1,5 +1,4 @@
 use mathlib.Core.Path.{refl}
-use Prim.Native.Nat.{◌-◌}
 use native.Mathlib.Omega.{arith}
 use Rattle.links.proofs.Listed.{count}
 use Rattle.spans.proofs.Taken.{none_taken, link_taken, all_taken}
@@ -9,12 +8,14 @@ pub loop-k-init : goal.loop-k-init
 loop-k-init c = (omega arith, refl, none_taken _ _ _)
 
 pub take_link-spans-requires : goal.take_link-spans-requires
-take_link-spans-requires c = record { readable = 
-      c.requires.by_index _ (omega arith) (omega arith); ascending = 
-      (
-        c.loop-k.invariant.2.ascending,
-        omega (arith, c.loop-k.invariant.1, c.loop-k.invariant.2.few, count c.args.links.now c.loop-k.k),
-      ) }
+take_link-spans-requires c = record {
+  readable =
+      c.requires.by_index _ (omega arith) (omega arith);
+  ascending = (
+    c.loop-k.invariant.2.ascending,
+    omega (arith, c.loop-k.invariant.1, c.loop-k.invariant.2.few, count c.args.links.now c.loop-k.k),
+  );
+}
 
 pub loop-k-preserved : goal.loop-k-preserved
 loop-k-preserved c =

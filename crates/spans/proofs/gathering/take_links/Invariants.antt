@@ -2,7 +2,6 @@ use mathlib.Core.Path.{◌≡◌}
 use Prim.Native.Nat.{◌-◌, ◌≤◌}
 use lib.ListN.{length}
 use Rattle.links.specs.Records.{links_in}
-use Rattle.links.proofs.Listed.{count}
 use Rattle.spans.specs.Steps.{Taken}
 use Rattle.spans.proofs.gathering.take_links.Given as goal
 

@@ -1,4 +1,3 @@
-use Prim.Native.Nat.{◌-◌}
 use native.Mathlib.Omega.{arith}
 use Rattle.spans.proofs.Inserted.{open_start, open_next, open_end}
 use Rattle.spans.proofs.insertion.make_room.Goals as goal

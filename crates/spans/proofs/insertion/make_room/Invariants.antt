@@ -1,4 +1,4 @@
-use Prim.Native.Nat.{◌≤◌, ◌-◌}
+use Prim.Native.Nat.{◌≤◌}
 use Rattle.spans.specs.Steps.{Opened}
 use Rattle.spans.proofs.insertion.make_room.Given as goal
 

@@ -1,5 +1,4 @@
 use mathlib.Core.Path.{◌≡◌, refl, ◌∙◌}
-use Prim.Native.Nat.{◌-◌}
 use native.Mathlib.Omega.{arith}
 use Rattle.spans.proofs.Reached.{no_symbols, more-symbols, all-symbols}
 use Rattle.spans.proofs.symbols_of.symbols_of.Goals as goal
@@ -19,11 +18,10 @@ bounds-symbols-s c =
     omega (arith, c.requires.few_sets, c.sets_in-sets.ensures)
 
 pub loop-s-preserved : goal.loop-s-preserved
-loop-s-preserved c =
-    (
-      omega arith,
-      more-symbols (omega (arith, c.requires.few_sets, c.sets_in-sets.ensures)) c.symbol_of.ensures c.loop-s.invariant.1,
-    )
+loop-s-preserved c = (
+  omega arith,
+  more-symbols (omega (arith, c.requires.few_sets, c.sets_in-sets.ensures)) c.symbol_of.ensures c.loop-s.invariant.1,
+)
 
 pub returns : goal.returns
 returns c =

@@ -1,6 +1,5 @@
 use Prim.Native.Nat.{◌-◌, ◌≤◌}
 use Rattle.spans.specs.Steps.{Symbols}
-use borrow.Author.Rules.{rules}
 use Rattle.spans.proofs.symbols_of.symbols_of.Given as goal
 
 abbrev pub invariant-loop-s : goal.invariant-loop-s

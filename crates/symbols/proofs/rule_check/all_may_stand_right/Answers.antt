@@ -1,6 +1,4 @@
 -- `all_may_stand_right` meets its contract. The loop's invariant: the symbols passed may stand right. Assumes nothing.
-use mathlib.Core.Bool.{true}
-use Prim.Native.Nat.{◌-◌}
 use native.Mathlib.Omega.{arith}
 use Rattle.laws.proofs.Loops.{all_none, all_fails, all_passes, all_end}
 use Rattle.symbols.specs.Symbol.{all_on_right}

@@ -1,6 +1,5 @@
 -- `table::bytes::clear` meets its contract. The invariant: the first k numbers are zero. Assumes nothing.
 use mathlib.Core.Path.{◌≡◌, sym}
-use Prim.Native.Nat.{◌-◌}
 use native.Mathlib.Omega.{arith}
 use borrow.Author.Rules.{rules}
 use Rattle.kernels.proofs.Write.{write_none, write_more, write_end}

@@ -1,6 +1,5 @@
 -- `table::put_rule` meets its contract. The invariant: the first k of the ten are written. Assumes nothing.
 use mathlib.Core.Path.{◌≡◌, sym}
-use Prim.Native.Nat.{◌-◌}
 use native.Mathlib.Omega.{arith}
 use borrow.Author.Rules.{rules}
 use Rattle.kernels.proofs.Write.{write_none, write_more, write_end}

@@ -1,7 +1,6 @@
 -- `table::put_rule` meets its contract. The invariant: the first k of the ten are written. Assumes nothing.
 use mathlib.Core.Path.{◌≡◌}
 use Prim.Native.Nat.{◌+◌, ◌*◌, ◌-◌, ◌≤◌}
-use borrow.Author.Rules.{rules}
 use lib.ListN.{length}
 use Rattle.kernels.specs.Write.{write_words}
 use Rattle.table.specs.Write.{ten_of}

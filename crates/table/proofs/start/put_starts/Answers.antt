@@ -1,6 +1,5 @@
 -- `table::start::put_starts` meets its contract. The invariant: the items of the rules below r are put. Assumes nothing.
 use mathlib.Core.Path.{◌≡◌, sym, ap, ◌∙◌}
-use Prim.Native.Nat.{◌-◌}
 use native.Mathlib.Omega.{arith}
 use borrow.Author.Rules.{rules}
 use Rattle.laws.proofs.Loops.{up_to-zero, up_to-more, up_to-end}

@@ -1,7 +1,6 @@
 -- `table::start::put_starts` meets its contract. The invariant: the items of the rules below r are put. Assumes nothing.
 use mathlib.Core.Path.{◌≡◌}
 use Prim.Native.Nat.{◌-◌, ◌≤◌}
-use borrow.Author.Rules.{rules}
 use lib.ListN.{length}
 use Rattle.laws.specs.Loops.{up_to}
 use Rattle.table.specs.Start.{put_start}

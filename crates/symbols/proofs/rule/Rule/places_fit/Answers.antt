@@ -1,9 +1,7 @@
 -- `Rule::places_fit` meets its contract. The loop's invariant: the places passed fit. Assumes nothing.
-use mathlib.Core.Bool.{true}
-use Prim.Native.Nat.{◌-◌}
 use native.Mathlib.Omega.{arith}
 use Rattle.laws.proofs.Loops.{all_none, all_fails, all_passes, all_end}
-use Rattle.symbols.specs.Rule.{place_fits, places_fit}
+use Rattle.symbols.specs.Rule.{places_fit}
 use Rattle.symbols.proofs.rule.Rule.places_fit.Goals as goal
 
 pub loop-k-init : goal.loop-k-init

@@ -1,7 +1,6 @@
 -- `Rule::same_places` meets its contract. The loop's invariant: the places passed are the same. Assumes nothing.
 use mathlib.Core.Path.{refl, sym}
-use mathlib.Core.Bool.{true, false}
-use Prim.Native.Nat.{◌-◌}
+use mathlib.Core.Bool.{false}
 use native.Mathlib.Omega.{arith}
 use borrow.Author.Tests.{eq-eqb, ne_eqb}
 use Rattle.laws.proofs.Loops.{all_none, all_more, all_fails, all_end}
