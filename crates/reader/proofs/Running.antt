@@ -1,11 +1,11 @@
 -- A text's lines run one after the other: a turn of the loop, and its end. Assumes nothing.
-use mathlib.Core.Path.{◌≡◌, refl, sym, ap, ◌∙◌, subst}
+use mathlib.Core.Path.{◌≡◌, sym, ap, ◌∙◌, subst}
 use mathlib.Core.List.{List, [], ◌∷◌, ◌++◌, append-nil, Memᴰ as In}
 use Prim.Native.Nat.{ℕ, zero, suc, ◌+◌, ◌-◌, ◌≤◌, ◌<◌}
 use native.Mathlib.Omega.{arith}
 use lib.ListN.{length, take, drop, length-take, length-drop, take-append-drop}
 use lib.Seq.{take_all, take-nil, take-take, take-add}
-use Rattle.bytes.specs.Bytes.{index_of, slice}
+use Rattle.reader.specs.Newline.{index_of, slice}
 use Rattle.text.specs.Text.{NEWLINE}
 use Rattle.desk.specs.Obeys.{State, Answers}
 use Rattle.desk.specs.Script.{Unbroken, Ran, Last}

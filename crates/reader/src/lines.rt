@@ -5,7 +5,9 @@
 // line is malformed whatever follows, so a line of any length goes through.
 ghost use Rattle.std.specs.Prelude.{◌≡◌, ◌+◌, ◌≤◌, min, length};
 ghost use Rattle.table.specs.Layout.{mem};
+ghost use Rattle.text.specs.Text.{NEWLINE};
 ghost use Rattle.desk.specs.Obeys.{state};
+ghost use Rattle.reader.specs.Newline.{index_of, slice};
 ghost use Rattle.reader.specs.Lines.{RanLine, RanLines, RanLast, KeptRest};
 
 use crate::output::ready;
@@ -15,7 +17,7 @@ const LONGEST: usize = 1282;
 
 // What is kept from line to line beside the numbers: the size of the link pool, how many bytes of the output buffer wait to be
 // written out, and whether all before them was written.
-#[derive(Drop)]
+#[derive(Clone, Copy)]
 pub struct Kept {
     pub pool: usize,
     pub used: usize,
@@ -23,7 +25,7 @@ pub struct Kept {
 }
 
 // What is left when the lines of a text are run: the place after the last newline, and what is kept then.
-#[derive(Drop)]
+#[derive(Clone, Copy)]
 pub struct Ran {
     pub at: usize,
     pub kept: Kept,
@@ -31,6 +33,7 @@ pub struct Ran {
 
 // Runs each line of the first n bytes of the text that has its newline.
 pub fn run_lines(
+    rt: &HostRuntime,
     text: &[u8],
     n: usize,
     rules: &mut [u8],
@@ -48,18 +51,19 @@ pub fn run_lines(
 {
     let mut now = kept;
     let mut at: usize = 0;
-    let mut end = bytes::scan::find(text, at, n, b'\n');
+    let mut end = newline(text, at, n);
     while end < n {
         let next = end + 1;
-        now = run_line(&text[at..next], rules, cells, words, links, out, now);
+        now = run_line(rt, &text[at..next], rules, cells, words, links, out, now);
         at = next;
-        end = bytes::scan::find(text, at, n, b'\n');
+        end = newline(text, at, n);
     }
     Ran { at, kept: now }
 }
 
 // Runs the last line, the first n bytes of the text, if the script does not end with a newline.
 pub fn run_last(
+    rt: &HostRuntime,
     text: &[u8],
     n: usize,
     rules: &mut [u8],
@@ -78,11 +82,12 @@ pub fn run_last(
     if n == 0 {
         return kept;
     }
-    run_line(&text[..n], rules, cells, words, links, out, kept)
+    run_line(rt, &text[..n], rules, cells, words, links, out, kept)
 }
 
 // Runs a line.
 fn run_line(
+    rt: &HostRuntime,
     line: &[u8],
     rules: &mut [u8],
     cells: &mut [u8],
@@ -97,7 +102,7 @@ fn run_line(
         (state (mem rules.new cells.new words.new) links.new result.pool)
         out.old kept.used out.new result.used }
 {
-    let place = ready(out, kept.used, kept.is_written);
+    let place = ready(rt, out, kept.used, kept.is_written);
     let start = place.start;
     let done = desk::answer(line, rules, cells, words, links, out, kept.pool, start);
     Kept {
@@ -125,4 +130,19 @@ fn least(a: usize, b: usize) -> usize
     ensures { result ≡ min a b }
 {
     if a < b { a } else { b }
+}
+
+// Where the first newline of the first n bytes stands from `at` on, or n.
+fn newline(text: &[u8], at: usize, n: usize) -> usize
+    requires { (at ≤ n) × (n ≤ length text.now) }
+    ensures { (result ≡ at + index_of NEWLINE (slice at n text.now)) × (result ≤ n) }
+{
+    let mut i = at;
+    while i < n {
+        if text[i] == b'\n' {
+            return i;
+        }
+        i += 1;
+    }
+    n
 }

@@ -7,40 +7,69 @@
 // Nothing can be promised of what a file holds or of what becomes of a write. A file that can't be opened or read is named on
 // standard error, and the other scripts are still run; so is a failed write, after which nothing more is run.
 //
-// A Rattle program has no exit status. `reader --status FILE SCRIPT..` writes `done` into the file when all scripts were run and all
+// Its exit status says nothing of that. `reader --status FILE SCRIPT..` writes `done` into the file when all scripts were run and all
 // that they print was written; `./skydoublet` makes its exit status from that.
 //
 // Its drills are the stored scripts in data/drills/, which the check runs in the order of `args`; `stdout` has what they must print.
+#![tactic(auto)]
+
+ghost use Rattle.std.specs.Prelude.{◌≡◌};
+
 mod again; // again.rt: whether what failed is worth another try
+mod failure; // failure.rt: what failed, said
 mod input; // input.rt: bytes read, the end told from a failure
 mod lines; // lines.rt: a text's lines run at the desk
 mod output; // output.rt: what waits to be written out
 mod pieces; // pieces.rt: a script run piece by piece
 
-use libc::STDIN_FILENO;
+use failure::say;
 use pieces::Standing;
+use std::env::{Env, FillError};
+use std::fs::File;
+use std::io::{Error, Result, Write};
+
+// The longest argument that is taken: no path is longer.
+const WORD: usize = 4096;
+
+// Linux's numbers for a name that is too long, and for bytes that are no text.
+const ENAMETOOLONG: i32 = 36;
+
+const EILSEQ: i32 = 84;
 
 // Runs the scripts that the arguments name; after `--status`, says in the file named there if all went well.
-fn main() {
-    let n = os::arg_count();
-    if !has_status(n) {
-        run_all(1, n);
+fn main(rt: HostRuntime) {
+    let n = arg_count(&rt);
+    if !has_status(&rt, n) {
+        run_all(&rt, 1, n);
         return;
     }
-    let standing = run_all(3, n);
+    let standing = run_all(&rt, 3, n);
     if standing.is_whole() {
-        say_done();
+        say_done(&rt);
     }
 }
 
+// How many arguments there are, the program's name among them.
+fn arg_count(rt: &HostRuntime) -> usize {
+    let mut word = [0u8; WORD];
+    for i in 0..usize::MAX {
+        if let Err(FillError::NotPresent) = rt.arg(i, &mut word) {
+            return i;
+        }
+    }
+    usize::MAX
+}
+
 // Whether the arguments begin with `--status FILE`.
-fn has_status(n: usize) -> bool {
+fn has_status(rt: &HostRuntime, n: usize) -> bool {
     if n < 3 {
         return false;
     }
-    let mut word = io::buffer();
-    let k = os::arg(1, &mut word);
-    is_status(&word[..k])
+    let mut word = [0u8; WORD];
+    match rt.arg(1, &mut word) {
+        Ok(k) => is_status(&word[..k]),
+        Err(_) => false,
+    }
 }
 
 fn is_status(word: &[u8]) -> bool {
@@ -59,63 +88,95 @@ fn is_status(word: &[u8]) -> bool {
 }
 
 // Writes the word into the file that argument 2 names. What fails here leaves the file without it.
-fn say_done() {
-    let mut path = io::buffer();
-    let n = os::arg(2, &mut path);
-    let fd = os::open_overwrite(&path[..n]);
-    if fd < 0 {
-        os::fail(&path[..n]);
-        return;
+fn say_done(rt: &HostRuntime) {
+    let mut path = [0u8; WORD];
+    match rt.arg(2, &mut path) {
+        Ok(n) => write_done(rt, &path[..n]),
+        Err(_) => say(rt, b"--status", Error::from_raw_os_error(ENAMETOOLONG)),
     }
-    io::write_all(fd, b"done\n");
-    libc::close(fd);
+}
+
+fn write_done(rt: &HostRuntime, path: &[u8]) {
+    match overwrite(rt, path) {
+        Ok(mut file) => {
+            let _ = file.write_all(b"done\n");
+        }
+        Err(error) => say(rt, path, error),
+    }
 }
 
 // Runs the scripts that the arguments from `first` on name, in order, or the one on standard input if there are none. The scripts
 // stand as the worst of them; once a write failed no more are run.
-fn run_all(first: usize, n: usize) -> Standing {
+fn run_all(rt: &HostRuntime, first: usize, n: usize) -> Standing {
     if first >= n {
-        return pieces::run(STDIN_FILENO, b"standard input");
+        return run_standard(rt);
     }
     let mut standing = Standing::Whole;
     let mut i = first;
     while i < n {
-        standing = run_next(i, standing);
+        standing = run_next(rt, i, standing);
         i += 1;
     }
     standing
 }
 
-fn run_next(i: usize, before: Standing) -> Standing {
+fn run_next(rt: &HostRuntime, i: usize, before: Standing) -> Standing {
     match before {
         Standing::Unwritten => Standing::Unwritten,
-        Standing::Whole => run_named(i),
+        Standing::Whole => run_named(rt, i),
         _ => {
-            let standing = run_named(i);
+            let standing = run_named(rt, i);
             standing.at_best_unread()
         }
     }
 }
 
 // Runs the script in the file that argument i names.
-fn run_named(i: usize) -> Standing {
-    let mut path = io::buffer();
-    let n = os::arg(i, &mut path);
-    if os::errno() != 0 {
-        os::fail(b"the name of a script");
-        return Standing::Unread;
-    }
-    if n == 1 {
-        if path[0] == b'-' {
-            return pieces::run(STDIN_FILENO, b"standard input");
+fn run_named(rt: &HostRuntime, i: usize) -> Standing {
+    let mut path = [0u8; WORD];
+    match rt.arg(i, &mut path) {
+        Ok(n) => run_path(rt, &path[..n]),
+        Err(_) => {
+            say(
+                rt,
+                b"the name of a script",
+                Error::from_raw_os_error(ENAMETOOLONG),
+            );
+            Standing::Unread
         }
     }
-    let fd = os::open_read(&path[..n]);
-    if fd < 0 {
-        os::fail(&path[..n]);
-        return Standing::Unread;
+}
+
+fn run_path(rt: &HostRuntime, path: &[u8]) -> Standing {
+    if path.len() == 1 && path[0] == b'-' {
+        return run_standard(rt);
     }
-    let standing = pieces::run(fd, &path[..n]);
-    libc::close(fd);
-    standing
+    match open(rt, path) {
+        Ok(mut file) => pieces::run(rt, &mut file, path),
+        Err(error) => {
+            say(rt, path, error);
+            Standing::Unread
+        }
+    }
+}
+
+fn run_standard(rt: &HostRuntime) -> Standing {
+    let mut input = rt.stdin();
+    pieces::run(rt, &mut input, b"standard input")
+}
+
+// Opens the file for reading. (The library takes a path that is text, and no other.)
+fn open(rt: &HostRuntime, path: &[u8]) -> Result<File> {
+    match str::from_utf8(path) {
+        Ok(text) => File::open(rt, text),
+        Err(_) => Err(Error::from_raw_os_error(EILSEQ)),
+    }
+}
+
+// Opens the file for writing, empty.
+fn overwrite(rt: &HostRuntime, path: &[u8]) -> Result<File> {
+    match str::from_utf8(path) {
+        Ok(text) => File::create(rt, text),
+        Err(_) => Err(Error::from_raw_os_error(EILSEQ)),
+    }
 }

@@ -6,8 +6,9 @@ ghost use Rattle.std.specs.Prelude.{false, ◌≡◌, ◌≤◌, ◌<◌, length
 ghost use Rattle.reader.specs.Output.{Ready};
 
 use crate::again::may_try_again;
-use libc::STDOUT_FILENO;
+use crate::failure::say;
 use replies::ROOM;
+use std::io::{Error, Write};
 
 pub const OUTPUT: usize = ROOM + 65536;
 
@@ -19,14 +20,14 @@ pub fn output() -> [u8; OUTPUT]
 }
 
 // Where the next line's text may be put, and whether all that went before it was written or still waits.
-#[derive(Drop)]
+#[derive(Clone, Copy)]
 pub struct Place {
     pub start: usize,
     pub is_written: bool,
 }
 
 // The place behind what waits, if there is room, and else the front, once what waits is written out.
-pub fn ready(out: &[u8], used: usize, is_written: bool) -> Place
+pub fn ready(rt: &HostRuntime, out: &[u8], used: usize, is_written: bool) -> Place
     requires { (1056768 ≤ length out.now) × (used ≤ length out.now) }
     ensures { Ready (length out.now) used result.start }
 {
@@ -36,7 +37,7 @@ pub fn ready(out: &[u8], used: usize, is_written: bool) -> Place
             is_written,
         };
     }
-    let is_flushed = flush(out, used, is_written);
+    let is_flushed = flush(rt, out, used, is_written);
     Place {
         start: 0,
         is_written: is_flushed,
@@ -44,14 +45,14 @@ pub fn ready(out: &[u8], used: usize, is_written: bool) -> Place
 }
 
 // How far the first bytes of the output are written, and whether the last write was good.
-#[derive(Drop)]
+#[derive(Clone, Copy)]
 pub struct Written {
     pub at: usize,
     pub is_good: bool,
 }
 
 // Writes out the first bytes of the output, unless an earlier write failed, and answers whether all is written.
-pub fn flush(out: &[u8], used: usize, is_written: bool) -> bool
+pub fn flush(rt: &HostRuntime, out: &[u8], used: usize, is_written: bool) -> bool
     requires { used ≤ length out.now }
     ensures { is_written ≡ false → result ≡ false }
 {
@@ -63,7 +64,7 @@ pub fn flush(out: &[u8], used: usize, is_written: bool) -> bool
     let mut turns = u64::MAX;
     while turns > 0 && written.is_good && written.at < used {
         let at = written.at;
-        written = write_on(out, at, used);
+        written = write_on(rt, out, at, used);
         turns -= 1;
     }
     written.is_all(used)
@@ -81,29 +82,28 @@ impl Written {
 }
 
 // One write of what stands from `at` up to `used`.
-fn write_on(out: &[u8], at: usize, used: usize) -> Written
+fn write_on(rt: &HostRuntime, out: &[u8], at: usize, used: usize) -> Written
     requires { (at < used) × (used ≤ length out.now) }
     ensures { result.at ≤ used }
 {
     let part = &out[at..used];
-    let put = libc::write(STDOUT_FILENO, part);
-    if put < 0 {
-        return Written {
+    match rt.stdout().write(part) {
+        Ok(n) => Written {
+            at: at + n,
+            is_good: true,
+        },
+        Err(error) => Written {
             at,
-            is_good: is_well(),
-        };
-    }
-    Written {
-        at: at + io::count(put, part),
-        is_good: true,
+            is_good: is_well(rt, error),
+        },
     }
 }
 
 // Whether to go on after a write that failed. If not, it is said on standard error.
-fn is_well() -> bool {
-    if may_try_again() {
+fn is_well(rt: &HostRuntime, error: Error) -> bool {
+    if may_try_again(error) {
         return true;
     }
-    os::fail(b"standard output");
+    say(rt, b"standard output", error);
     false
 }

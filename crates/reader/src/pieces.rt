@@ -10,10 +10,14 @@ ghost use Rattle.reader.specs.Pieces.{Behind, Unless, Brought, RanPiece, RanEnd,
 use crate::input::{Got, fill};
 use crate::lines::{Kept, keep_rest, run_last, run_lines};
 use crate::output::{flush, output};
+use std::io::Read;
+
+// How many bytes are held at most, those that are read at a time among them.
+const TEXT: usize = 65536;
 
 // How a script stands: there may be more of it; it was run to its end and all that it prints is written; the reading failed; the
 // writing failed.
-#[derive(Drop)]
+#[derive(Clone, Copy)]
 pub enum Standing {
     More,
     Whole,
@@ -58,15 +62,15 @@ impl Standing {
 }
 
 // What a turn leaves beside the numbers: how the script stands, how many bytes are held, and the size of the link pool.
-#[derive(Drop)]
+#[derive(Clone, Copy)]
 pub struct Turn {
     pub standing: Standing,
     pub held: usize,
     pub pool: usize,
 }
 
-// Runs the script that fd brings, to its end.
-pub fn run(fd: i32, name: &[u8]) -> Standing
+// Runs the script that the input brings, to its end.
+pub fn run<R: Read>(rt: &HostRuntime, input: &mut R, name: &[u8]) -> Standing
     ensures { RanFromBlank result }
 {
     let mut rules_space = [0u8; desk::RULES];
@@ -79,14 +83,15 @@ pub fn run(fd: i32, name: &[u8]) -> Standing
     let links: &mut [u16] = &mut links_space;
     let mut out_space = output();
     let out: &mut [u8] = &mut out_space;
-    let mut text_space = io::large_buffer();
+    let mut text_space = [0u8; TEXT];
     let text: &mut [u8] = &mut text_space;
-    run_script(fd, name, text, rules, cells, words, links, out)
+    run_script(rt, input, name, text, rules, cells, words, links, out)
 }
 
 // The same over lent slices.
-fn run_script(
-    fd: i32,
+fn run_script<R: Read>(
+    rt: &HostRuntime,
+    input: &mut R,
     name: &[u8],
     text: &mut [u8],
     rules: &mut [u8],
@@ -109,8 +114,8 @@ fn run_script(
     while turns > 0 && turn.goes_on() {
         let held = turn.held;
         let pool = turn.pool;
-        let got = fill(fd, name, text, held);
-        turn = run_turn(got, text, held, rules, cells, words, links, out, pool);
+        let got = fill(rt, input, name, text, held);
+        turn = run_turn(rt, got, text, held, rules, cells, words, links, out, pool);
         turns -= 1;
     }
     turn.standing
@@ -127,6 +132,7 @@ impl Turn {
 
 // Runs what is whole, now that this was read behind the bytes that are held.
 fn run_turn(
+    rt: &HostRuntime,
     got: Got,
     text: &mut [u8],
     held: usize,
@@ -144,8 +150,8 @@ fn run_turn(
         text.new result.held result.standing }
 {
     match got {
-        Got::Bytes(n) => run_piece(text, held, n, rules, cells, words, links, out, pool),
-        Got::End => run_end(text, held, rules, cells, words, links, out, pool),
+        Got::Bytes(n) => run_piece(rt, text, held, n, rules, cells, words, links, out, pool),
+        Got::End => run_end(rt, text, held, rules, cells, words, links, out, pool),
         Got::Failed => Turn {
             standing: Standing::Unread,
             held,
@@ -156,6 +162,7 @@ fn run_turn(
 
 // Runs the lines that are whole, now that n bytes stand behind those that were held.
 fn run_piece(
+    rt: &HostRuntime,
     text: &mut [u8],
     held: usize,
     n: usize,
@@ -178,10 +185,10 @@ fn run_piece(
         used: 0,
         is_written: true,
     };
-    let ran = run_lines(text, end, rules, cells, words, links, out, kept);
+    let ran = run_lines(rt, text, end, rules, cells, words, links, out, kept);
     let now = ran.kept;
     let at = ran.at;
-    let is_written = flush(out, now.used, now.is_written);
+    let is_written = flush(rt, out, now.used, now.is_written);
     Turn {
         standing: if_written(Standing::More, is_written),
         held: keep_rest(text, at, end),
@@ -191,6 +198,7 @@ fn run_piece(
 
 // Runs what is held as the last line, now that the script is at its end.
 fn run_end(
+    rt: &HostRuntime,
     text: &[u8],
     held: usize,
     rules: &mut [u8],
@@ -210,8 +218,8 @@ fn run_end(
         used: 0,
         is_written: true,
     };
-    let now = run_last(text, held, rules, cells, words, links, out, kept);
-    let is_written = flush(out, now.used, now.is_written);
+    let now = run_last(rt, text, held, rules, cells, words, links, out, kept);
+    let is_written = flush(rt, out, now.used, now.is_written);
     Turn {
         standing: if_written(Standing::Whole, is_written),
         held: 0,
