@@ -2,6 +2,7 @@
 use super::calls;
 use super::calls::Lent;
 use script::{Cursor, Number};
+use std::io;
 
 // Makes the table by calls. Rules 0: 64 -> 65, 1: 65 -> 1, 2: 65 -> 2 withdrawn, 3: 64 -> 3; 4 is free. Sets:
 //
@@ -12,7 +13,7 @@ use script::{Cursor, Number};
 //   4  kernel 0.1      expanded, accepts
 //
 // and 5 and 6 are free. The line 2 expands the set that stays over once its rule is withdrawn.
-pub(crate) fn make() -> Lent {
+pub(crate) fn make(rt: &impl Print) -> io::Result<Lent> {
     let sevens = Lent {
         rules: [7; calls::RULES],
         cells: [7; calls::CELLS],
@@ -22,11 +23,12 @@ pub(crate) fn make() -> Lent {
     };
     let new = sevens.new(7, 5);
     let ruled = new.add(64, 65).add(65, 1).add(65, 2).add(64, 3);
-    ruled.parse(&[2]).delete(65, 2).parse(&[1])
+    let parsed = ruled.parse(rt, &[2])?;
+    parsed.delete(65, 2).parse(rt, &[1])
 }
 
 // A table with numbers written over, and whether all of them could be read and have a place.
-#[derive(Drop)]
+#[derive(Clone, Copy)]
 pub struct Written {
     pub table: Lent,
     pub is_good: bool,

@@ -1,12 +1,14 @@
 // A table by value, and the calls on it. A call takes a copy, and hands back what it left of the numbers and what it answered. Each
 // promises what the call itself does.
-ghost use Rattle.std.specs.Prelude.{[], ◌∷◌};
+ghost use Rattle.std.specs.Prelude.{[], ◌∷◌, IfOk};
 ghost use Rattle.laws.specs.Choice.{Tells};
 ghost use Rattle.theory.specs.Calls.{add, delete, collect, restart, parse};
 ghost use Rattle.table.specs.Layout.{mem};
 ghost use Rattle.table.specs.Becomes.{Promised};
 ghost use Rattle.table.specs.Laid.{Formed};
 ghost use Rattle.generator.specs.Calls.{NewPromised};
+
+use std::io;
 
 // What the pools of seven sets and five places for rules need, and a few numbers more.
 pub const RULES: usize = table::SIZES + 5 * table::RULE + 3;
@@ -21,7 +23,7 @@ const POOL: usize = 8;
 const LINKS: usize = (POOL + 1) * links::RECORD + 4;
 
 // The lent numbers, and what the last call answered: `number` is the rule's for Add and Delete, that of links for Parse, and 0 else.
-#[derive(Drop)]
+#[derive(Clone, Copy)]
 pub struct Lent {
     pub rules: [u8; RULES],
     pub cells: [u8; CELLS],
@@ -128,9 +130,9 @@ impl Lent {
     }
 
     // Over a link buffer that is not zero.
-    pub fn parse(self, line: &[u8]) -> Lent
-        ensures { Promised (λ t. parse t 8 line.now)
-            (mem self.rules self.cells self.words) (mem result.rules result.cells result.words) result.answer result.number }
+    pub fn parse(self, rt: &impl Print, line: &[u8]) -> io::Result<Lent>
+        ensures { IfOk result (λ left. Promised (λ t. parse t 8 line.now)
+            (mem self.rules self.cells self.words) (mem left.rules left.cells left.words) left.answer left.number) }
     {
         let mut rules = self.rules;
         let mut cells = self.cells;
@@ -139,36 +141,35 @@ impl Lent {
         let verdict = recogniser::parse(&mut rules, &mut cells, &mut words, &mut links, POOL, line);
         let told = verdict.answer;
         let answer = told.number();
-        print_links(&links, answer);
-        Lent {
+        print_links(rt, &links, answer)?;
+        Ok(Lent {
             rules,
             cells,
             words,
             answer,
             number: verdict.links,
-        }
+        })
     }
 }
 
 // Prints `!` where Parse left the link buffer wrong. A refused parse leaves it as it was, any other leaves the pool's part zero;
 // beyond it nothing is touched.
-fn print_links(links: &[u16], answer: u8) {
+fn print_links(rt: &impl Print, links: &[u16], answer: u8) -> io::Result<()> {
     let end = (POOL + 1) * links::RECORD;
     if !all_are(links, end, LINKS, 7) {
-        io::write_all(1, b"!");
-        return;
+        return rt.write_all(b"!");
     }
     if 10 <= answer && answer < 20 {
-        print_wrong(all_are(links, 0, end, 7));
-        return;
+        return print_wrong(rt, all_are(links, 0, end, 7));
     }
-    print_wrong(all_are(links, 0, end, 0));
+    print_wrong(rt, all_are(links, 0, end, 0))
 }
 
-fn print_wrong(right: bool) {
+fn print_wrong(rt: &impl Print, right: bool) -> io::Result<()> {
     if !right {
-        io::write_all(1, b"!");
+        rt.write_all(b"!")?;
     }
+    Ok(())
 }
 
 // Whether the numbers from `from` to `to` are all x.

@@ -13,11 +13,15 @@
 // 01 lets a table in form that no call made be "worked on safely": these lines are that sentence tried out. Out of form, every call
 // but New answers 11 and leaves everything. The file stdout, which the lines are held to, was made by the reference on the same
 // numbers.
+#![tactic(auto)]
+
+use std::io;
+
 mod base; // base.rt: the table that the cases start from, and the numbers written over it
 mod calls; // calls.rt: the calls on a copy of a table
 mod cases; // cases.rt: the cases, from the file stdin
 mod tried; // tried.rt: every call on a table, and what it left
 
-fn main() {
-    cases::all();
+fn main(rt: HostRuntime) -> io::Result<()> {
+    cases::all(&rt)
 }

@@ -1,59 +1,55 @@
 // Every call on a table, each on a copy of its own; prints the line.
 use super::calls::Lent;
+use std::io;
 
-pub(crate) fn every_call(t: Lent) {
-    print_formed(t);
-    print_call(b'N', t, t.new(2, 3));
-    print_call(b'A', t, t.add(64, 2)); // a START rule, so that set 0's kernel changes
-    print_call(b'D', t, t.delete(65, 1));
-    print_call(b'G', t, t.collect());
-    print_call(b'R', t, t.restart());
-    print_call(b'P', t, t.parse(&[1]));
-    print_call(b'P', t, t.parse(&[1, 1]));
-    io::write_all(1, b"\n");
+pub(crate) fn every_call(rt: &impl Print, t: Lent) -> io::Result<()> {
+    print_formed(rt, t)?;
+    print_call(rt, b'N', t, t.new(2, 3))?;
+    print_call(rt, b'A', t, t.add(64, 2))?; // a START rule, so that set 0's kernel changes
+    print_call(rt, b'D', t, t.delete(65, 1))?;
+    print_call(rt, b'G', t, t.collect())?;
+    print_call(rt, b'R', t, t.restart())?;
+    print_call(rt, b'P', t, t.parse(rt, &[1])?)?;
+    print_call(rt, b'P', t, t.parse(rt, &[1, 1])?)?;
+    rt.write_all(b"\n")
 }
 
-fn print_formed(t: Lent) {
-    io::write_all(1, b": F ");
+fn print_formed(rt: &impl Print, t: Lent) -> io::Result<()> {
+    rt.write_all(b": F ")?;
     if t.is_formed() {
-        io::write_all(1, b"1");
-        return;
+        return rt.write_all(b"1");
     }
-    io::write_all(1, b"0");
+    rt.write_all(b"0")
 }
 
 // Prints a call's letter and its answers, and what it left of the table t.
-fn print_call(letter: u8, t: Lent, left: Lent) {
-    io::write_all(1, &[b' ', letter]);
-    print_number(left.answer as usize);
+fn print_call(rt: &impl Print, letter: u8, t: Lent, left: Lent) -> io::Result<()> {
+    rt.write_all(&[b' ', letter])?;
+    print_number(rt, left.answer as usize)?;
     if letter == b'A' || letter == b'D' || letter == b'P' {
-        print_number(left.number);
+        print_number(rt, left.number)?;
     }
-    print_left(t, left);
+    print_left(rt, t, left)
 }
 
-fn print_number(n: usize) {
-    io::write_all(1, b" ");
-    io::print_decimal(1, n as u64);
+fn print_number(rt: &impl Print, n: usize) -> io::Result<()> {
+    print!(rt; " {n}")
 }
 
-fn print_left(t: Lent, left: Lent) {
+fn print_left(rt: &impl Print, t: Lent, left: Lent) -> io::Result<()> {
     let rules = left.rules;
     if !same_beyond(t, left, rules[0], rules[1]) {
-        io::write_all(1, b"!");
-        return;
+        return rt.write_all(b"!");
     }
     if same(t, left, 0, 0, 0) {
-        io::write_all(1, b"=");
-        return;
+        return rt.write_all(b"=");
     }
     if left.is_formed() {
-        io::write_all(1, b"+");
-        return;
+        return rt.write_all(b"+");
     }
-    io::write_all(1, b"-");
+    rt.write_all(b"-")?;
     let next = left.collect();
-    print_number(next.answer as usize);
+    print_number(rt, next.answer as usize)
 }
 
 // Whether the numbers beyond pools of these sizes are the same.

@@ -1,0 +1,5 @@
+-- `delete` meets its contract: the answer that it hands back is the number of the call's. Assumes nothing.
+use Rattle.unmade.proofs.calls.Lent.delete.Goals as goal
+
+pub returns : goal.returns
+returns c = simp c.number.ensures c.delete-changed.ensures
