@@ -21,7 +21,7 @@ Brought text held (Bytes n) = Behind text held n
 Brought text held End = Unit {0}
 Brought text held Failed = Unit {0}
 
--- the bytes held are as they were, and of what was read `libc::read` says how much it is
+-- the bytes held are as they were, and of what was read `Read::read` says how much it is
 pub record Filled (before : List ℕ) (held : ℕ) (after : List ℕ) (r : Got) : Type 0 where
   pub kept : take held after ≡ take held before
   pub brought : Brought after held r
