@@ -1,6 +1,6 @@
 /* Skydoublet's calls for C and C++: a grammar table in memory that the caller lends, changed rule by rule, and lines parsed over it.
  *
- * The library is target/staticlib/libskydoublet.a, made by `rt staticlib skydoublet` from proved code, for x86-64 Linux. It
+ * The library is target/staticlib/libskydoublet.a, made by `embedding/library` from proved code, for x86-64 Linux. It
  * allocates nothing, keeps nothing between calls and takes one function from outside, C's memset. "01" is docs/RULES.md, which
  * says what each call does.
  *

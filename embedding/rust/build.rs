@@ -1,4 +1,4 @@
-//! Tells Cargo where the static library is: `SKYDOUBLET_LIB`, or where `rt staticlib skydoublet` leaves it.
+//! Tells Cargo where the static library is: `SKYDOUBLET_LIB`, or where `embedding/library` leaves it.
 
 use std::env;
 

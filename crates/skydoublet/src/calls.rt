@@ -8,8 +8,7 @@ ghost use Rattle.generator.specs.Calls.{NewPromised};
 ghost use Rattle.skydoublet.specs.Parse.{ParsesTo};
 
 // New: a table of so many sets and places for rules.
-#[unsafe(no_mangle)]
-pub extern "C" fn skydoublet_new(
+pub fn skydoublet_new(
     rules: &mut [u8],
     cells: &mut [u8],
     words: &mut [u64],
@@ -23,8 +22,7 @@ pub extern "C" fn skydoublet_new(
 }
 
 // Add. The number of the rule, 0 on a refusal, goes to `number`.
-#[unsafe(no_mangle)]
-pub extern "C" fn skydoublet_add(
+pub fn skydoublet_add(
     rules: &mut [u8],
     cells: &mut [u8],
     words: &mut [u64],
@@ -43,8 +41,7 @@ pub extern "C" fn skydoublet_add(
 }
 
 // Delete. The number of the rule, 0 on a refusal, goes to `number`.
-#[unsafe(no_mangle)]
-pub extern "C" fn skydoublet_delete(
+pub fn skydoublet_delete(
     rules: &mut [u8],
     cells: &mut [u8],
     words: &mut [u64],
@@ -63,8 +60,7 @@ pub extern "C" fn skydoublet_delete(
 }
 
 // Collect.
-#[unsafe(no_mangle)]
-pub extern "C" fn skydoublet_collect(rules: &mut [u8], cells: &mut [u8], words: &mut [u64]) -> u8
+pub fn skydoublet_collect(rules: &mut [u8], cells: &mut [u8], words: &mut [u64]) -> u8
     ensures { Promised collect
         (mem rules.old cells.old words.old) (mem rules.new cells.new words.new)
         result 0 }
@@ -73,8 +69,7 @@ pub extern "C" fn skydoublet_collect(rules: &mut [u8], cells: &mut [u8], words: 
 }
 
 // Restart.
-#[unsafe(no_mangle)]
-pub extern "C" fn skydoublet_restart(rules: &mut [u8], cells: &mut [u8], words: &mut [u64]) -> u8
+pub fn skydoublet_restart(rules: &mut [u8], cells: &mut [u8], words: &mut [u64]) -> u8
     ensures { Promised restart
         (mem rules.old cells.old words.old) (mem rules.new cells.new words.new)
         result 0 }
@@ -83,8 +78,7 @@ pub extern "C" fn skydoublet_restart(rules: &mut [u8], cells: &mut [u8], words: 
 }
 
 // Parse. The number of links, 0 on a refusal, goes to `number`.
-#[unsafe(no_mangle)]
-pub extern "C" fn skydoublet_parse(
+pub fn skydoublet_parse(
     rules: &mut [u8],
     cells: &mut [u8],
     words: &mut [u64],
@@ -103,8 +97,7 @@ pub extern "C" fn skydoublet_parse(
 }
 
 // Whether the lent numbers are laid out and hold a table in form.
-#[unsafe(no_mangle)]
-pub extern "C" fn skydoublet_formed(rules: &[u8], cells: &[u8], words: &[u64]) -> bool
+pub fn skydoublet_formed(rules: &[u8], cells: &[u8], words: &[u64]) -> bool
     ensures { Tells result (Formed (mem rules.now cells.now words.now)) }
 {
     form::is_formed(rules, cells, words)

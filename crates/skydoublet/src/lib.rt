@@ -1,5 +1,6 @@
 // The library for programs in C and Rust: 01's calls under plain names, what a caller needs to read a table, and how long the
-// slices have to be. embedding/skydoublet.h declares them, embedding/rust/ wraps them for Rust.
+// slices have to be. The crate skydoublet_c exports them for C, embedding/skydoublet.h declares them, embedding/rust/ wraps them
+// for Rust.
 //
 // A slice is lent as a pointer and a length. The caller owns every number: nothing is allocated, nothing is kept between calls,
 // and two tables have nothing to do with each other. A call takes slices of any length with any numbers in them, as the calls
@@ -13,6 +14,6 @@
 // Nothing is decided here: every function hands its arguments to a floor below, and its contract is that floor's own.
 #![tactic(auto)]
 
-mod calls; // calls.rt: 01's calls
-mod reading; // reading.rt: what a caller reads from a table
-mod sizes; // sizes.rt: how long the slices have to be
+pub mod calls; // calls.rt: 01's calls
+pub mod reading; // reading.rt: what a caller reads from a table
+pub mod sizes; // sizes.rt: how long the slices have to be

@@ -3,8 +3,7 @@ ghost use Rattle.std.specs.Prelude.{◌+◌, ◌*◌, ◌≤◌};
 ghost use Rattle.skydoublet.specs.Told.{Told};
 
 // The numbers of `rules` that so many places for rules need.
-#[unsafe(no_mangle)]
-pub extern "C" fn skydoublet_rules_for(places: usize) -> usize
+pub fn skydoublet_rules_for(places: usize) -> usize
     ensures { Told ((1 ≤ places) × (places ≤ 128)) result (2 + places * 10) 0 }
 {
     if places < 1 {
@@ -17,8 +16,7 @@ pub extern "C" fn skydoublet_rules_for(places: usize) -> usize
 }
 
 // The numbers of `cells` that so many sets need.
-#[unsafe(no_mangle)]
-pub extern "C" fn skydoublet_cells_for(sets: usize) -> usize
+pub fn skydoublet_cells_for(sets: usize) -> usize
     ensures { Told ((1 ≤ sets) × (sets ≤ 255)) result (sets * 128) 0 }
 {
     if sets < 1 {
@@ -31,8 +29,7 @@ pub extern "C" fn skydoublet_cells_for(sets: usize) -> usize
 }
 
 // The numbers of `words` that so many sets need.
-#[unsafe(no_mangle)]
-pub extern "C" fn skydoublet_words_for(sets: usize) -> usize
+pub fn skydoublet_words_for(sets: usize) -> usize
     ensures { Told ((1 ≤ sets) × (sets ≤ 255)) result (sets * 18) 0 }
 {
     if sets < 1 {
@@ -45,8 +42,7 @@ pub extern "C" fn skydoublet_words_for(sets: usize) -> usize
 }
 
 // The numbers of the link buffer that a pool of so many links needs.
-#[unsafe(no_mangle)]
-pub extern "C" fn skydoublet_links_for(pool: usize) -> usize
+pub fn skydoublet_links_for(pool: usize) -> usize
     ensures { Told (pool ≤ 4096) result ((pool + 1) * 6) 0 }
 {
     if 4096 < pool {
