@@ -8,12 +8,10 @@
 // standard error, and the other scripts are still run; so is a failed write, after which nothing more is run.
 //
 // Its exit status says nothing of that. `reader --status FILE SCRIPT..` writes `done` into the file when all scripts were run and all
-// that they print was written; `./skydoublet` makes its exit status from that.
+// that they print was written, and `unread` when nobody reads what is printed; `./skydoublet` makes its exit status from that.
 //
 // Its drills are the stored scripts in data/drills/, which the check runs in the order of `args`; `stdout` has what they must print.
 #![tactic(auto)]
-
-ghost use Rattle.std.specs.Prelude.{◌≡◌};
 
 mod again; // again.rt: whether what failed is worth another try
 mod failure; // failure.rt: what failed, said
@@ -87,19 +85,34 @@ fn is_status(word: &[u8]) -> bool {
     true
 }
 
-// Writes the word into the file that argument 2 names. What fails here leaves the file without it.
+// Says that all went well.
 fn say_done(rt: &HostRuntime) {
+    tell(rt, b"done\n");
+}
+
+// Says that nobody reads what is printed: by the word `unread` in the file after `--status`, so that `./skydoublet` can keep silent of
+// it where its caller wants that, else on standard error.
+fn say_unread(rt: &HostRuntime, error: Error) {
+    if has_status(rt, arg_count(rt)) {
+        tell(rt, b"unread\n");
+    } else {
+        say(rt, b"standard output", error);
+    }
+}
+
+// Writes the word into the file that argument 2 names. What fails here leaves the file without it.
+fn tell(rt: &HostRuntime, word: &[u8]) {
     let mut path = [0u8; WORD];
     match rt.arg(2, &mut path) {
-        Ok(n) => write_done(rt, &path[..n]),
+        Ok(n) => write_word(rt, &path[..n], word),
         Err(_) => say(rt, b"--status", Error::from_raw_os_error(ENAMETOOLONG)),
     }
 }
 
-fn write_done(rt: &HostRuntime, path: &[u8]) {
+fn write_word(rt: &HostRuntime, path: &[u8], word: &[u8]) {
     match overwrite(rt, path) {
         Ok(mut file) => {
-            let _ = file.write_all(b"done\n");
+            let _ = file.write_all(word);
         }
         Err(error) => say(rt, path, error),
     }

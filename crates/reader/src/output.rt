@@ -8,7 +8,6 @@ ghost use Rattle.reader.specs.Output.{Ready};
 use crate::again::may_try_again;
 use crate::failure::say;
 use replies::ROOM;
-use std::env::Env;
 use std::io::{Error, ErrorKind, Write};
 
 pub const OUTPUT: usize = ROOM + 65536;
@@ -105,15 +104,9 @@ fn is_well(rt: &HostRuntime, error: Error) -> bool {
     if may_try_again(error) {
         return true;
     }
-    if !is_known(rt, error) {
-        say(rt, b"standard output", error);
+    match error.kind() {
+        ErrorKind::BrokenPipe => crate::say_unread(rt, error),
+        _ => say(rt, b"standard output", error),
     }
     false
-}
-
-// Whether the write failed because nobody reads, and the caller knows without a word. By custom a signal ends such a program, but a
-// Rattle program is started with that signal ignored: `./skydoublet` tells here that its caller did not have it so.
-fn is_known(rt: &HostRuntime, error: Error) -> bool {
-    let mut word = [0u8; 8];
-    error.kind() == ErrorKind::BrokenPipe && rt.var("SKYDOUBLET_PIPE", &mut word).is_ok()
 }
