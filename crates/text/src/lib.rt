@@ -2,7 +2,7 @@
 //
 // Each `put_..` takes the place to start at and hands back the place after what it put; what stands before and beyond stays as it
 // was. None tests for room when it runs: its contract asks for it, 4 bytes for a number of 0 to 9999. What is put leaves one text
-// (`Puts-one`, proofs/Putting.antt). Writing out is the program's.
+// (`puts_one`, proofs/Putting.antt). Writing out is the program's.
 //
 // specs/Text.antt has how a number is spelled, for those who put it and for `script`, which reads it; proofs/Decimal.antt that no two
 // are spelled the same.

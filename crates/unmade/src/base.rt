@@ -2,7 +2,6 @@
 use super::calls;
 use super::calls::Lent;
 use script::{Cursor, Number};
-use std::io;
 
 // Makes the table by calls. Rules 0: 64 -> 65, 1: 65 -> 1, 2: 65 -> 2 withdrawn, 3: 64 -> 3; 4 is free. Sets:
 //
@@ -13,7 +12,7 @@ use std::io;
 //   4  kernel 0.1      expanded, accepts
 //
 // and 5 and 6 are free. The line 2 expands the set that stays over once its rule is withdrawn.
-pub(crate) fn make(rt: &impl Print) -> io::Result<Lent> {
+pub(crate) fn make(rt: &impl Print) -> Lent {
     let sevens = Lent {
         rules: [7; calls::RULES],
         cells: [7; calls::CELLS],
@@ -23,8 +22,7 @@ pub(crate) fn make(rt: &impl Print) -> io::Result<Lent> {
     };
     let new = sevens.new(7, 5);
     let ruled = new.add(64, 65).add(65, 1).add(65, 2).add(64, 3);
-    let parsed = ruled.parse(rt, &[2])?;
-    parsed.delete(65, 2).parse(rt, &[1])
+    ruled.parse(rt, &[2]).delete(65, 2).parse(rt, &[1])
 }
 
 // A table with numbers written over, and whether all of them could be read and have a place.

@@ -89,7 +89,7 @@ fn try_case(rt: &impl Print, line: &[u8]) -> io::Result<bool> {
     if letter != b'T' {
         return Ok(false);
     }
-    let written = base::write_over(base::make(rt)?, line, start);
+    let written = base::write_over(base::make(rt), line, start);
     if !written.is_good {
         return Ok(false);
     }

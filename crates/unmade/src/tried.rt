@@ -9,8 +9,8 @@ pub(crate) fn every_call(rt: &impl Print, t: Lent) -> io::Result<()> {
     print_call(rt, b'D', t, t.delete(65, 1))?;
     print_call(rt, b'G', t, t.collect())?;
     print_call(rt, b'R', t, t.restart())?;
-    print_call(rt, b'P', t, t.parse(rt, &[1])?)?;
-    print_call(rt, b'P', t, t.parse(rt, &[1, 1])?)?;
+    print_call(rt, b'P', t, t.parse(rt, &[1]))?;
+    print_call(rt, b'P', t, t.parse(rt, &[1, 1]))?;
     rt.write_all(b"\n")
 }
 
