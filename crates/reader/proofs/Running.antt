@@ -5,7 +5,7 @@ use Prim.Native.Nat.{ℕ, zero, suc, ◌+◌, ◌-◌, ◌≤◌, ◌<◌}
 use native.Mathlib.Omega.{arith}
 use lib.ListN.{length, take, drop, length-take, length-drop, take-append-drop}
 use lib.Seq.{take_all, take-nil, take-take, take-add}
-use Rattle.reader.specs.Newline.{index_of, slice}
+use Rattle.text.specs.Newline.{index_of, slice}
 use Rattle.text.specs.Text.{NEWLINE}
 use Rattle.desk.specs.Obeys.{State, Answers}
 use Rattle.desk.specs.Script.{Unbroken, Ran, Last}

@@ -1,5 +1,4 @@
 -- What is promised of a script's bytes, from the output that waits to the script as a whole.
-pub mod Newline
 pub mod Output
 pub mod Lines
 pub mod Pieces

@@ -5,12 +5,11 @@
 // line is malformed whatever follows, so a line of any length goes through.
 ghost use Rattle.std.specs.Prelude.{◌≡◌, ◌+◌, ◌≤◌, min, length};
 ghost use Rattle.table.specs.Layout.{mem};
-ghost use Rattle.text.specs.Text.{NEWLINE};
 ghost use Rattle.desk.specs.Obeys.{state};
-ghost use Rattle.reader.specs.Newline.{index_of, slice};
 ghost use Rattle.reader.specs.Lines.{RanLine, RanLines, RanLast, KeptRest};
 
 use crate::output::ready;
+use text::newline;
 
 // The longest line that can be good: a letter, 256 numbers of four digits, each after a space, and a newline.
 const LONGEST: usize = 1282;
@@ -130,19 +129,4 @@ fn least(a: usize, b: usize) -> usize
     ensures { result ≡ min a b }
 {
     if a < b { a } else { b }
-}
-
-// Where the first newline of the first n bytes stands from `at` on, or n.
-fn newline(text: &[u8], at: usize, n: usize) -> usize
-    requires { (at ≤ n) × (n ≤ length text.now) }
-    ensures { (result ≡ at + index_of NEWLINE (slice at n text.now)) × (result ≤ n) }
-{
-    let mut i = at;
-    while i < n {
-        if text[i] == b'\n' {
-            return i;
-        }
-        i += 1;
-    }
-    n
 }

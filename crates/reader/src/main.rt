@@ -178,18 +178,20 @@ fn run_standard(rt: &HostRuntime) -> Standing {
     pieces::run(rt, &mut input, b"standard input")
 }
 
-// Opens the file for reading. (The library takes a path that is text, and no other.)
+// Opens the file for reading.
 fn open(rt: &HostRuntime, path: &[u8]) -> Result<File> {
-    match str::from_utf8(path) {
-        Ok(text) => File::open(rt, text),
-        Err(_) => Err(Error::from_raw_os_error(EILSEQ)),
-    }
+    File::open(rt, text_of(path)?)
 }
 
 // Opens the file for writing, empty.
 fn overwrite(rt: &HostRuntime, path: &[u8]) -> Result<File> {
+    File::create(rt, text_of(path)?)
+}
+
+// The library takes a path that is text, and no other.
+fn text_of(path: &[u8]) -> Result<&str> {
     match str::from_utf8(path) {
-        Ok(text) => File::create(rt, text),
+        Ok(text) => Ok(text),
         Err(_) => Err(Error::from_raw_os_error(EILSEQ)),
     }
 }

@@ -1,3 +1,4 @@
 -- Text as bytes, and bytes put into a text.
 pub mod Text
 pub mod Puts
+pub mod Newline

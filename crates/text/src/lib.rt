@@ -6,11 +6,14 @@
 //
 // specs/Text.antt has how a number is spelled, for those who put it and for `script`, which reads it; proofs/Decimal.antt that no two
 // are spelled the same.
+//
+// `newline` finds where a line ends, for those who cut a text into lines.
 #![tactic(auto)]
 
-ghost use Rattle.std.specs.Prelude.{[], ◌∷◌, ◌+◌, ◌≤◌, ◌<◌, length};
-ghost use Rattle.text.specs.Text.{SPACE, decimal};
+ghost use Rattle.std.specs.Prelude.{◌≡◌, [], ◌∷◌, ◌+◌, ◌≤◌, ◌<◌, length};
+ghost use Rattle.text.specs.Text.{SPACE, NEWLINE, decimal};
 ghost use Rattle.text.specs.Puts.{Puts, digit_of};
+ghost use Rattle.text.specs.Newline.{index_of, slice};
 
 // Puts a byte at a place of the text, and hands back the place after it.
 pub fn put_byte(out: &mut [u8], at: usize, b: u8) -> usize
@@ -50,4 +53,21 @@ pub fn put_spaced(out: &mut [u8], at: usize, n: usize) -> usize
 {
     let start = put_byte(out, at, b' ');
     put_number(out, start, n)
+}
+
+// Where the first newline of the first n bytes stands from `at` on, or n.
+pub fn newline(text: &[u8], at: usize, n: usize) -> usize
+    requires from { at ≤ n }
+    requires inside { n ≤ length text.now }
+    ensures first { result ≡ at + index_of NEWLINE (slice at n text.now) }
+    ensures within { result ≤ n }
+{
+    let mut i = at;
+    while i < n {
+        if text[i] == b'\n' {
+            return i;
+        }
+        i += 1;
+    }
+    n
 }

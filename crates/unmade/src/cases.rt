@@ -1,10 +1,11 @@
 // The cases, from standard input. The file stdin says how they are written.
-ghost use Rattle.std.specs.Prelude.{◌≡◌, ◌≢◌, ◌≤◌, ◌<◌, ℕ, length, slice_index, IfOk};
+ghost use Rattle.std.specs.Prelude.{◌≤◌, length, IfOk};
 
 use super::{base, tried};
 use script::{Cursor, Letter};
 use std::io;
 use std::io::Read;
+use text::newline;
 
 // The most bytes of standard input that are read.
 const LARGEST: usize = 65536;
@@ -35,27 +36,11 @@ fn read_full(rt: &impl Input, text: &mut [u8]) -> io::Result<usize>
 fn each_line(rt: &impl Print, text: &[u8]) -> io::Result<()> {
     let mut at: usize = 0;
     while at < text.len() {
-        let end = find_newline(text, at);
+        let end = newline(text, at, text.len());
         obey(rt, &text[at..end])?;
         at = end + 1;
     }
     Ok(())
-}
-
-// Where the line that begins at `at` ends: the place of the first newline from there on, or the text's length.
-fn find_newline(text: &[u8], at: usize) -> usize
-    requires { at ≤ length text.now }
-    ensures low { at ≤ result }
-    ensures high { result ≤ length text.now }
-    ensures before { (k : ℕ) → at ≤ k → k < result → slice_index text.now k ≢ 10 }
-    ensures found { result < length text.now → slice_index text.now result ≡ 10 }
-{
-    for i in at..text.len() {
-        if text[i] == b'\n' {
-            return i;
-        }
-    }
-    text.len()
 }
 
 // `# NAME` is what the next case's line starts with, other lines with # are for the reader, and any else is a case. One that is none

@@ -10,7 +10,7 @@ use Rattle.reader.proofs.lines.run_lines.Goals as goal
 
 pub loop-end-init : goal.loop-end-init
 loop-end-init c = (
-  (omega arith, c.newline-end.ensures.0, c.newline-end.ensures.1),
+  (omega arith, c.newline-end.ensures.first, c.newline-end.ensures.within),
   (refl, refl, refl, refl),
   refl,
   record { printed = []; ran = rest unbroken_nil; waits = waits-none _ _ c.requires.3 },
@@ -25,7 +25,7 @@ run_line-now-requires c = (
 
 pub loop-end-preserved : goal.loop-end-preserved
 loop-end-preserved c = (
-  (omega (arith, c.loop-end-test.true), c.newline-end-in-loop-end.ensures.0, c.newline-end-in-loop-end.ensures.1),
+  (omega (arith, c.loop-end-test.true), c.newline-end-in-loop-end.ensures.first, c.newline-end-in-loop-end.ensures.within),
   (
     c.run_line-now.auto.rules ∙ c.loop-end.invariant.1.0,
     c.run_line-now.auto.cells ∙ c.loop-end.invariant.1.1,

@@ -5,7 +5,7 @@ use Prim.Native.Nat.{◌+◌, ◌-◌, ◌≤◌}
 use lib.ListN.{take, length}
 use Rattle.table.specs.Layout.{mem}
 use Rattle.text.specs.Text.{NEWLINE}
-use Rattle.reader.specs.Newline.{index_of, slice}
+use Rattle.text.specs.Newline.{index_of, slice}
 use Rattle.desk.specs.Obeys.{state}
 use Rattle.reader.specs.Lines.{RanText}
 use Rattle.reader.proofs.lines.run_lines.Given as goal

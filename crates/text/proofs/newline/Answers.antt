@@ -1,15 +1,15 @@
 -- Each byte that is passed is no newline; where one stands, or the bytes end, the search has come to its place. Assumes nothing.
 use Rattle.std.proofs.Common.{◌≡◌, ◌+◌, suc, ap, arith}
 use Rattle.text.specs.Text.{NEWLINE}
-use Rattle.reader.specs.Newline.{index_of, slice}
-use Rattle.reader.proofs.Newlines.{is_here, is_further, ends_there}
-use Rattle.reader.proofs.lines.newline.Goals as goal
+use Rattle.text.specs.Newline.{index_of, slice}
+use Rattle.text.proofs.Newlines.{is_here, is_further, ends_there}
+use Rattle.text.proofs.newline.Goals as goal
 
 pub returns-then-text-i-eq10 : goal.returns-then-text-i-eq10
 returns-then-text-i-eq10 c =
     let here : index_of NEWLINE (slice c.loop-i.i c.args.n c.args.text.now) ≡ 0 =
     is_here NEWLINE c.loop-i.i c.args.n c.args.text.now (omega arith) (omega arith) c.if-text-i-eq10.true in
-    (omega arith, omega arith)
+    record { first = omega arith; within = omega arith }
 
 pub loop-i-preserved : goal.loop-i-preserved
 loop-i-preserved c =
@@ -23,4 +23,4 @@ pub returns : goal.returns
 returns c =
     let end : c.loop-i.i ≡ c.args.n = omega arith in
     let ends : c.loop-i.i ≡ c.loop-i.i + index_of NEWLINE (slice c.loop-i.i c.args.n c.args.text.now) = ends_there NEWLINE c.args.text.now end in
-    (omega arith, omega arith)
+    record { first = omega arith; within = omega arith }
