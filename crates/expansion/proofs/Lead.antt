@@ -12,8 +12,7 @@ use lib.Seq.{get_or-set_same, get_or-set_other}
 use Rattle.laws.specs.Choice.{when}
 use Rattle.laws.specs.Lists.{firstIn}
 use Rattle.kernels.specs.Kernel.{Next}
-use Rattle.kernels.specs.declared.Found.{Found}
-use Rattle.kernels.specs.declared.Found.TheVariants.{At, Nothing}
+use Rattle.std.specs.Prelude.{Option, Some, None}
 use Rattle.laws.proofs.Tables.{length_tab}
 use Rattle.theory.specs.Table.{Transition, SetPlace, no_transition}
 use Rattle.theory.specs.Form.{InUse}
@@ -113,8 +112,8 @@ module _ (rs : List ℕ) (x₀ : Sets) (c bits : List ℕ) (𝓛 : Leadable rs x
         still = λ k z. ap (λ l. lookup (leading_in rs c l (sets_seen rs x₀)).transitions k) e;
       }
 
-  module _ {from : ℕ} {x : Sets} {row : List ℕ} (so_far : LeadFrom rs x₀ c bits from x row) {f : Found} where
-    module _ {i : ℕ} (e : f ≡ At i) (next : Next bits 0 2 from f) where
+  module _ {from : ℕ} {x : Sets} {row : List ℕ} (so_far : LeadFrom rs x₀ c bits from x row) {f : (Option ℕ)} where
+    module _ {i : ℕ} (e : f ≡ Some i) (next : Next bits 0 2 from f) where
       abbrev ss : List SetPlace
       ss = sets_seen rs x
 
@@ -194,7 +193,7 @@ module _ (rs : List ℕ) (x₀ : Sets) (c bits : List ℕ) (𝓛 : Leadable rs x
               ];
             }
 
-    pub lead-end : f ≡ Nothing → Next bits 0 2 from f → LedTo rs x₀ x c row
+    pub lead-end : f ≡ None → Next bits 0 2 from f → LedTo rs x₀ x c row
     lead-end e next =
         let none = rest-none bits from e next in
         record {

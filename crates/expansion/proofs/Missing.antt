@@ -13,8 +13,7 @@ use Rattle.laws.specs.Lists.{consIf, keep}
 use Rattle.laws.proofs.Choice.{when_yes, when_no, when-cases}
 use Rattle.laws.proofs.Chosen.{keep_cong}
 use Rattle.kernels.specs.Kernel.{Next}
-use Rattle.kernels.specs.declared.Found.{Found}
-use Rattle.kernels.specs.declared.Found.TheVariants.{At, Nothing}
+use Rattle.std.specs.Prelude.{Option, Some, None}
 use Rattle.theory.specs.Expansion.{set_with}
 use Rattle.theory.proofs.Kernels.{symbol_range}
 use Rattle.table.specs.Layout.{Sets, sets_in, rules_in, kernel_seen, view_rules}
@@ -75,11 +74,11 @@ module _ (rs ws c bits : List ℕ) (𝓗 : HoldsSymbols bits (view_rules rs) (it
         ap (missing_in rs ws c) (rest_all bits (view_rules rs) (items_in rs c) 𝓗) in omega arith;
   }
 
-  module _ {from n : ℕ} (so_far : Counted rs ws c bits from n) {f : Found} where
-    pub count-above : {y : ℕ} → f ≡ At y → Next bits 0 2 from f → 1 ≤ y
+  module _ {from n : ℕ} (so_far : Counted rs ws c bits from n) {f : (Option ℕ)} where
+    pub count-above : {y : ℕ} → f ≡ Some y → Next bits 0 2 from f → 1 ≤ y
     count-above {y} e next = (symbol_range (view_rules rs) (items_in rs c) y (rest_in bits (view_rules rs) (items_in rs c) 𝓗 from e next)).0
 
-    pub count_turn : {y k : ℕ} → f ≡ At y → Next bits 0 2 from f → k ≡ one_if_missing rs ws c y → Counted rs ws c bits (y + 1) (n + k)
+    pub count_turn : {y k : ℕ} → f ≡ Some y → Next bits 0 2 from f → k ≡ one_if_missing rs ws c y → Counted rs ws c bits (y + 1) (n + k)
     count_turn {y} {k} e next one =
         let l = least bits from e next in
         let a : missing_in rs ws c (rest bits from) ≡ one_if_missing rs ws c y + missing_in rs ws c (rest bits (y + 1)) =
@@ -91,7 +90,7 @@ module _ (rs ws c bits : List ℕ) (𝓗 : HoldsSymbols bits (view_rules rs) (it
           exact = omega (arith, so_far.exact);
         }
 
-    pub count-end : f ≡ Nothing → Next bits 0 2 from f → n ≡ missing_in rs ws c (symbols_in rs c)
+    pub count-end : f ≡ None → Next bits 0 2 from f → n ≡ missing_in rs ws c (symbols_in rs c)
     count-end e next =
         let a : missing_in rs ws c (rest bits from) ≡ 0 = ap (missing_in rs ws c) (rest-none bits from e next) in
         omega (arith, so_far.exact)

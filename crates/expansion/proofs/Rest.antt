@@ -12,8 +12,7 @@ use Rattle.laws.specs.Lists.{keep, up_from}
 use Rattle.laws.proofs.Lists.{in_up}
 use Rattle.laws.proofs.Chosen.{keep_none}
 use Rattle.kernels.specs.Kernel.{has, holds, Least, Next}
-use Rattle.kernels.specs.declared.Found.{Found}
-use Rattle.kernels.specs.declared.Found.TheVariants.{At, Nothing}
+use Rattle.std.specs.Prelude.{Option, Some, None}
 use Rattle.theory.specs.Table.{RulePlace, Item}
 use Rattle.theory.specs.Expansion.{symbols}
 use Rattle.closure.specs.Walk.{HoldsSymbols}
@@ -40,11 +39,11 @@ module _ (ws : List ℕ) where
   unfoldable pub rest : ℕ → List ℕ
   rest from = keep (λ x. holds ws 0 x) (up_from from (128 - from))
 
-  module _ (from : ℕ) {f : Found} where
-    pub least : {i : ℕ} → f ≡ At i → Next ws 0 2 from f → Least ws 0 2 from i
+  module _ (from : ℕ) {f : (Option ℕ)} where
+    pub least : {i : ℕ} → f ≡ Some i → Next ws 0 2 from f → Least ws 0 2 from i
     least e next = subst (Next ws 0 2 from) e next
 
-    pub rest-next : {i : ℕ} → f ≡ At i → Next ws 0 2 from f → rest from ≡ i ∷ rest (i + 1)
+    pub rest-next : {i : ℕ} → f ≡ Some i → Next ws 0 2 from f → rest from ≡ i ∷ rest (i + 1)
     unfolding rest
     rest-next {i} e next =
         let l = least e next in
@@ -54,7 +53,7 @@ module _ (ws : List ℕ) where
         kept_from (λ x. holds ws 0 x) from (128 - from) i above (omega arith) (λ j g h. ne_eqb (has ws 0 j) 1 (λ o. omega (arith, l.none j g h))) (eq-eqb (has ws 0 i) 1 l.there)
         ∙ ap₂ (λ j n. i ∷ keep (λ x. holds ws 0 x) (up_from j n)) (sym (add-one i)) r
 
-    pub rest-none : f ≡ Nothing → Next ws 0 2 from f → rest from ≡ []
+    pub rest-none : f ≡ None → Next ws 0 2 from f → rest from ≡ []
     unfolding rest
     rest-none e next =
         let none : (j : ℕ) → from ≤ j → j < 128 → has ws 0 j ≡ 0 = subst (Next ws 0 2 from) e next in
@@ -66,5 +65,5 @@ module _ (ws : List ℕ) where
     unfolding rest
     rest_all = symbols-kept ws rs c h
 
-    pub rest_in : (from : ℕ) {i : ℕ} {f : Found} → f ≡ At i → Next ws 0 2 from f → In i (symbols rs c)
+    pub rest_in : (from : ℕ) {i : ℕ} {f : (Option ℕ)} → f ≡ Some i → Next ws 0 2 from f → In i (symbols rs c)
     rest_in from {i} e next = (h i).0 (least from e next).there

@@ -1,5 +1,5 @@
 -- A walk by `next` over the items of a kernel c: its start, a turn, its end. Assumes nothing.
-use mathlib.Core.Path.{◌≡◌, refl, sym, ap, ◌∙◌}
+use mathlib.Core.Path.{◌≡◌, refl, sym, ap, subst, ◌∙◌}
 use mathlib.Core.List.{List}
 use Prim.Native.Nat.{ℕ, zero, suc, ◌+◌, ◌≤◌, zero-le}
 use native.Mathlib.Omega.{arith}
@@ -9,8 +9,9 @@ use Rattle.laws.specs.Loops.{up_to}
 use Rattle.laws.proofs.Choice.{when-cases}
 use Rattle.kernels.specs.Walk.{visit}
 use Rattle.kernels.specs.Kernel.{has, Next}
-use Rattle.kernels.specs.declared.Found.{Found}
-use Rattle.kernels.specs.declared.Found.TheVariants.{At, Nothing}
+use Rattle.kernels.specs.Bits.{Over, GivesBit}
+use Rattle.kernels.specs.declared.bits.Bits.{Bits}
+use Rattle.std.specs.Prelude.{Option, Some, None}
 use Rattle.kernels.proofs.Walk.{visit-none, visit-step, visit_skip}
 use Rattle.kernels.proofs.NextBit.{next-at, next-nothing}
 
@@ -23,15 +24,37 @@ pub walk_start : {A : Type 0} {step : ℕ → A → A} {c : List ℕ} {a : A} �
 walk_start {step = step} {c = c} {a = a} = record { inside = zero-le; so_far = sym (visit-none step (has c 0) a) }
 
 module _ {A : Type 0} {step : ℕ → A → A} {c : List ℕ} {from : ℕ} {a x : A} (walked : Walked step c from a x) where
-  pub walk_turn : {f : Found} {i : ℕ} {y : A} → f ≡ At i → Next c 0 16 from f → y ≡ step i x → Walked step c (i + 1) a y
+  pub walk_turn : {f : (Option ℕ)} {i : ℕ} {y : A} → f ≡ Some i → Next c 0 16 from f → y ≡ step i x → Walked step c (i + 1) a y
   walk_turn {f} {i} e next h =
       let l = next-at c 0 {n = 16} {from = from} f next e in record {
         inside = omega (arith, l.inside);
         so_far = h ∙ ap (step i) (walked.so_far ∙ sym (visit_skip step (has c 0) from i a l.above l.none)) ∙ sym (visit-step step (has c 0) i a l.there);
       }
 
-  pub walk_end : {f : Found} → f ≡ Nothing → Next c 0 16 from f → x ≡ visit step (has c 0) 1024 a
+  pub walk_end : {f : (Option ℕ)} → f ≡ None → Next c 0 16 from f → x ≡ visit step (has c 0) 1024 a
   walk_end {f} e next = walked.so_far ∙ sym (visit_skip step (has c 0) from 1024 a walked.inside (next-nothing c 0 16 from f next e))
+
+-- the walk b over the items of c is under way: x is what it has made of a
+pub record Walking {A : Type 0} (step : ℕ → A → A) (c : List ℕ) (b : Bits) (a x : A) : Type 0 where
+  pub over : Over c 0 16 b
+  pub walked : Walked step c b.from a x
+
+pub walking_start : {A : Type 0} {step : ℕ → A → A} {c : List ℕ} {a : A} {b : Bits} → Over c 0 16 b → b.from ≡ 0 → Walking step c b a a
+walking_start {step = step} {c = c} {a = a} o z = record { over = o; walked = subst (λ n. Walked step c n a a) (sym z) walk_start }
+
+module _ {A : Type 0} {step : ℕ → A → A} {c : List ℕ} {a x : A} {b : Bits} where
+  module _ (w : Walking step c b a x) {d : Bits} where
+    asks : {r : Option ℕ} → GivesBit b r d → Next c 0 16 b.from r
+    asks {r} g = subst (λ ws. Next ws 0 16 b.from r) w.over.words (subst (λ n. Next b.words.now 0 n b.from r) w.over.count (subst (λ p. Next b.words.now p b.n b.from r) w.over.place g.gives))
+
+    pub walking_turn : {i : ℕ} {y : A} → GivesBit b (Some i) d → y ≡ step i x → Walking step c d a y
+    walking_turn {i} {y} g h = record {
+      over = record { words = g.over.words ∙ w.over.words; place = g.over.place ∙ w.over.place; count = g.over.count ∙ w.over.count };
+      walked = subst (λ n. Walked step c n a y) (sym (g.on i refl)) (walk_turn w.walked refl (asks g) h);
+    }
+
+    pub walking_end : GivesBit b None d → x ≡ visit step (has c 0) 1024 a
+    walking_end g = walk_end w.walked refl (asks g)
 
 -- a walk whose step leaves the number of the words leaves it too
 visit-length : (step : ℕ → List ℕ → List ℕ) → ((i : ℕ) (ws : List ℕ) → length (step i ws) ≡ length ws) → (h : ℕ → ℕ) (n : ℕ) (a : List ℕ) → length (visit step h n a) ≡ length a

@@ -2,6 +2,7 @@
 pub mod Walk
 pub mod Bit
 pub mod Write
+pub mod Parts
 pub mod Kernel
 pub mod Subset
 pub mod NextBit

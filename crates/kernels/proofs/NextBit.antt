@@ -7,8 +7,7 @@ use native.Mathlib.Decide.{dec_lt}
 use lib.ListN.{get_or}
 use Rattle.kernels.specs.Bit.{bit, Lowest}
 use Rattle.kernels.specs.Kernel.{has, Least, Next}
-use Rattle.kernels.specs.declared.Found.{Found}
-use Rattle.kernels.specs.declared.Found.TheVariants.{At, Nothing}
+use Rattle.std.specs.Prelude.{Option, Some, None}
 use Rattle.kernels.proofs.Bit.{bit_of-zero, bit_high, bit_shr}
 use Rattle.kernels.proofs.Kernel.{has-at}
 
@@ -80,20 +79,20 @@ module _ (ws : List ℕ) (at : ℕ) where
       }
 
   -- what an answer says, in the arm of a match on it
-  pub next-at : {n from j : ℕ} (r : Found) → Next ws at n from r → r ≡ At j → Least ws at n from j
+  pub next-at : {n from j : ℕ} (r : (Option ℕ)) → Next ws at n from r → r ≡ Some j → Least ws at n from j
   next-at {n} {from} r h e = subst (Next ws at n from) e h
 
-  pub next-nothing : (n from : ℕ) (r : Found) → Next ws at n from r → r ≡ Nothing → NoneIn from (n * 64)
+  pub next-nothing : (n from : ℕ) (r : (Option ℕ)) → Next ws at n from r → r ≡ None → NoneIn from (n * 64)
   next-nothing n from r h e = subst (Next ws at n from) e h
 
   -- no second answer fits
-  pub next-unique : (n from : ℕ) (r s : Found) → Next ws at n from r → Next ws at n from s → r ≡ s
-  next-unique n from (At i) (At j) a b = ap At (go (dec_lt i j) (dec_lt j i))
+  pub next-unique : (n from : ℕ) (r s : (Option ℕ)) → Next ws at n from r → Next ws at n from s → r ≡ s
+  next-unique n from (Some i) (Some j) a b = ap Some (go (dec_lt i j) (dec_lt j i))
     where
       go : Dec (i < j) → Dec (j < i) → i ≡ j
       go (yes l) d = let z : has ws at i ≡ 0 = b.none i a.above l in absurd (omega (arith, a.there))
       go (no l) (yes k) = let z : has ws at j ≡ 0 = a.none j b.above k in absurd (omega (arith, b.there))
       go (no l) (no k) = omega arith
-  next-unique n from (At i) Nothing a b = let z : has ws at i ≡ 0 = b i a.above a.inside in absurd (omega (arith, a.there))
-  next-unique n from Nothing (At j) a b = let z : has ws at j ≡ 0 = a j b.above b.inside in absurd (omega (arith, b.there))
-  next-unique n from Nothing Nothing a b = refl
+  next-unique n from (Some i) None a b = let z : has ws at i ≡ 0 = b i a.above a.inside in absurd (omega (arith, a.there))
+  next-unique n from None (Some j) a b = let z : has ws at j ≡ 0 = a j b.above b.inside in absurd (omega (arith, b.there))
+  next-unique n from None None a b = refl

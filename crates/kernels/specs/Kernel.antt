@@ -6,8 +6,7 @@ use Rattle.laws.specs.Loops.{all_below}
 use Rattle.laws.specs.Lists.{firstIn, up_from}
 use Rattle.kernels.specs.Bit.{bit, put_bit}
 use Rattle.kernels.specs.Walk.{how_many}
-use Rattle.kernels.specs.declared.Found.{Found}
-use Rattle.kernels.specs.declared.Found.TheVariants.{At, Nothing}
+use Rattle.std.specs.Prelude.{Option, Some, None}
 
 -- "An item is a rule number and a dot": its number, by which "Items are ordered by rule number, then dot", a dot being at most 7
 abbrev pub item : ℕ → ℕ → ℕ
@@ -58,6 +57,6 @@ pub record Least (ws : List ℕ) (at n from i : ℕ) : Type 0 where
   pub none : (j : ℕ) → from ≤ j → j < i → has ws at j ≡ 0
 
 -- the answer to a walk's question: that bit, or that there is none
-abbrev pub Next : List ℕ → ℕ → ℕ → ℕ → Found → Type 0
-Next ws at n from (At i) = Least ws at n from i
-Next ws at n from Nothing = (j : ℕ) → from ≤ j → j < n * 64 → has ws at j ≡ 0
+abbrev pub Next : List ℕ → ℕ → ℕ → ℕ → (Option ℕ) → Type 0
+Next ws at n from (Some i) = Least ws at n from i
+Next ws at n from None = (j : ℕ) → from ≤ j → j < n * 64 → has ws at j ≡ 0

@@ -17,7 +17,10 @@ ghost use Rattle.std.specs.Prelude.{◌≡◌, ◌+◌, ◌*◌, ◌/◌, ◌≤
 ghost use Rattle.kernels.specs.Write.{write_words};
 ghost use Rattle.kernels.specs.Kernel.{holds, put, same, within, find, empty, items, Next};
 
+mod bits; // bits.rt: a walk over the bits that are set
 pub mod word; // word.rt: the bits of one word
+
+pub use bits::Bits;
 
 // The words of a kernel; of a set, its kernel and its reductions; and of these the last.
 pub const KERNEL_WORDS: usize = 16;
@@ -32,13 +35,6 @@ pub const LAST_WORD: usize = 17;
 pub const DOTS: usize = 8;
 
 pub const ITEMS: usize = 1024;
-
-// The answer to `next`.
-#[derive(Clone, Copy)]
-pub enum Found {
-    At(usize),
-    Nothing,
-}
 
 // Whether the kernel at `at` holds the item.
 pub fn has(words: &[u64], at: usize, item: usize) -> bool
@@ -62,11 +58,7 @@ pub fn clear(words: &mut [u64], at: usize, n: usize)
     requires { at + n ≤ length words.old }
     ensures { words.new ≡ write_words words.old at (λ k. 0) n }
 {
-    let mut k = 0;
-    while k < n {
-        words[at + k] = 0;
-        k += 1;
-    }
+    words[at..at + n].fill(0);
 }
 
 // Makes the kernel at `at` that at `from` of src.
@@ -74,11 +66,7 @@ pub fn copy(words: &mut [u64], at: usize, src: &[u64], from: usize)
     requires { (at + 16 ≤ length words.old) × (from + 16 ≤ length src.now) }
     ensures { words.new ≡ write_words words.old at (λ k. get_or src.now (from + k) 0) 16 }
 {
-    let mut k = 0;
-    while k < KERNEL_WORDS {
-        words[at + k] = src[from + k];
-        k += 1;
-    }
+    words[at..at + KERNEL_WORDS].copy_from_slice(&src[from..from + KERNEL_WORDS]);
 }
 
 // Whether the kernel at i of a is the kernel at j of b.
@@ -86,14 +74,7 @@ pub fn equal(a: &[u64], i: usize, b: &[u64], j: usize) -> bool
     requires { (i + 16 ≤ length a.now) × (j + 16 ≤ length b.now) }
     ensures { result ≡ same a.now i b.now j }
 {
-    let mut k = 0;
-    while k < KERNEL_WORDS {
-        if a[i + k] != b[j + k] {
-            return false;
-        }
-        k += 1;
-    }
-    true
+    a[i..i + KERNEL_WORDS] == b[j..j + KERNEL_WORDS]
 }
 
 // Whether every bit of the n words from i of a is set in the n words from j of b.
@@ -101,12 +82,10 @@ pub fn within(a: &[u64], i: usize, b: &[u64], j: usize, n: usize) -> bool
     requires { (i + n ≤ length a.now) × (j + n ≤ length b.now) }
     ensures { result ≡ within a.now i b.now j n }
 {
-    let mut k = 0;
-    while k < n {
+    for k in 0..n {
         if (a[i + k] | b[j + k]) != b[j + k] {
             return false;
         }
-        k += 1;
     }
     true
 }
@@ -117,12 +96,10 @@ pub fn find(words: &[u64], sets: usize, key: &[u64], at: usize) -> usize
     requires { (sets * 18 ≤ length words.now) × (at + 16 ≤ length key.now) }
     ensures { result ≡ find words.now sets key.now at }
 {
-    let mut s = 1;
-    while s < sets {
+    for s in 1..sets {
         if equal(words, s * SET_WORDS, key, at) {
             return s;
         }
-        s += 1;
     }
     0
 }
@@ -130,27 +107,25 @@ pub fn find(words: &[u64], sets: usize, key: &[u64], at: usize) -> usize
 // The least bit of the n words from `at` on that is not below `from`. A walk over a kernel's items asks with n = 16, one over
 // a set's reductions with n = 2, from its word 16 on; the next question is from the answer + 1. n is at most a set's 18 words,
 // so that a bit's number fits.
-pub fn next(words: &[u64], at: usize, n: usize, from: usize) -> Found
+pub fn next(words: &[u64], at: usize, n: usize, from: usize) -> Option<usize>
     requires { (at + n ≤ length words.now) × (n ≤ 18) }
     ensures { Next words.now at n from result }
 {
-    let mut i = from / 64;
-    if i >= n {
-        return Found::Nothing;
+    let first = from / 64;
+    if first >= n {
+        return None;
     }
-    let rest = words[at + i] >> (from % 64);
+    let rest = words[at + first] >> (from % 64);
     if rest != 0 {
-        return Found::At(from + word::lowest(rest));
+        return Some(from + word::lowest(rest));
     }
-    i += 1;
-    while i < n {
+    for i in first + 1..n {
         let w = words[at + i];
         if w != 0 {
-            return Found::At(i * 64 + word::lowest(w));
+            return Some(i * 64 + word::lowest(w));
         }
-        i += 1;
     }
-    Found::Nothing
+    None
 }
 
 // How many items the kernel at `at` holds.
@@ -159,10 +134,8 @@ pub fn count(words: &[u64], at: usize) -> usize
     ensures { result ≡ items words.now at }
 {
     let mut sum = 0;
-    let mut k = 0;
-    while k < KERNEL_WORDS {
+    for k in 0..KERNEL_WORDS {
         sum += word::ones(words[at + k]);
-        k += 1;
     }
     sum
 }
@@ -172,12 +145,10 @@ pub fn is_empty(words: &[u64], at: usize) -> bool
     requires { at + 16 ≤ length words.now }
     ensures { result ≡ empty words.now at }
 {
-    let mut k = 0;
-    while k < KERNEL_WORDS {
+    for k in 0..KERNEL_WORDS {
         if words[at + k] != 0 {
             return false;
         }
-        k += 1;
     }
     true
 }

@@ -25,8 +25,7 @@ use Rattle.links.specs.declared.Here.{Here}
 use Rattle.links.specs.Records.{Graph, links_of}
 use Rattle.links.proofs.Listed.{count}
 use Rattle.saturation.specs.Ends.{Saturates, Waiting}
-use Rattle.kernels.specs.declared.Found.{Found}
-use Rattle.kernels.specs.declared.Found.TheVariants.{At, Nothing}
+use Rattle.std.specs.Prelude.{Option, Some, None}
 use Rattle.expansion.specs.Expansion.{Expandable, Expands}
 use Rattle.expansion.proofs.Promises.{expand-keeps, expand-expanded}
 use Rattle.positions.specs.Reading.{Stands, Kept, Settles, Refuses}
@@ -34,7 +33,7 @@ use Rattle.positions.proofs.Kept.{kept-none, kept_trans, kept-expanded}
 use Rattle.positions.proofs.Turns.{turns_left, fewer_turns}
 
 -- what the search for an unexpanded set found
-pub waiting_at : {t : Table} {p u : ℕ} {ls : List Link} {f : Found} → Waiting t p ls f → f ≡ At u → Lowest t p ls u
+pub waiting_at : {t : Table} {p u : ℕ} {ls : List Link} {f : (Option ℕ)} → Waiting t p ls f → f ≡ Some u → Lowest t p ls u
 waiting_at {t} {p} {u} {ls} w e = subst (Waiting t p ls) e w
 
 -- before a turn: n and y are the table's numbers and the graph, m and x what they were at first
@@ -70,7 +69,7 @@ module _ {h : Here} {m : Mem} {x : Graph} {n : Mem} {y z : Graph} (I : Settling 
     fits : length (links_of z) ≤ h.size
     fits = omega (arith, count z.buf z.links, S.held.core.fits)
 
-    pub settling-ready : {f : Found} → Waiting t p (links_of z) f → f ≡ Nothing → Settles h m x n z
+    pub settling-ready : {f : (Option ℕ)} → Waiting t p (links_of z) f → f ≡ None → Settles h m x n z
     settling-ready w q = record {
       kept = I.kept;
       stands = record {

@@ -1,8 +1,6 @@
 -- What the public functions promise, in the order-free terms of theory's Steps. Assumes nothing.
 use Rattle.std.specs.Prelude.{◌≡◌, ◌≢◌, ℕ, ◌+◌, ◌*◌, ◌≤◌, ◌<◌, T, length, get_or}
 use mathlib.Core.List.{List, Memᴰ as In}
-use Rattle.kernels.specs.declared.Found.{Found}
-use Rattle.kernels.specs.declared.Found.TheVariants.{At, Nothing}
 use Rattle.theory.specs.Table.{UNEXPANDED, Table, set_at}
 use Rattle.theory.specs.Parse.{Link, nodes_at}
 use Rattle.theory.specs.Steps.{Saturated, Lowest, Shifted}
@@ -38,9 +36,9 @@ pub record Accepting (t : Table) (p : ℕ) (ls : List Link) : Type 0 where
   pub mark : T (set_at t.sets set).accepts
 
 -- "If a node here has an unexpanded set, .. the lowest-numbered one"
-abbrev pub Waiting : Table → ℕ → List Link → Found → Type 0
-Waiting t p ls (At u) = Lowest t p ls u
-Waiting t p ls Nothing = (v : ℕ) → In v (nodes_at ls p) → (set_at t.sets v).state ≢ UNEXPANDED
+abbrev pub Waiting : Table → ℕ → List Link → (Option ℕ) → Type 0
+Waiting t p ls (Some u) = Lowest t p ls u
+Waiting t p ls None = (v : ℕ) → In v (nodes_at ls p) → (set_at t.sets v).state ≢ UNEXPANDED
 
 -- ---- the same over the numbers, of the nodes from lo, below hi
 

@@ -12,8 +12,7 @@ use lib.Seq.{get_or-append-add, get_or-set_same, get_or-set_other}
 use Rattle.laws.specs.Choice.{when}
 use Rattle.laws.specs.Lists.{keep, joinMap, up_from}
 use Rattle.kernels.specs.Kernel.{has, holds, Least, Next}
-use Rattle.kernels.specs.declared.Found.{Found}
-use Rattle.kernels.specs.declared.Found.TheVariants.{At, Nothing}
+use Rattle.std.specs.Prelude.{Option, Some, None}
 use Rattle.kernels.proofs.NextBit.{next-at, next-nothing}
 use Rattle.theory.specs.Table.{RulePlace, Item, rule_at, item, all_items}
 use Rattle.table.specs.Layout.{mem, sets_in, rules_in, rule_number, rule_seen, kernel_seen, view_rules, view}
@@ -126,7 +125,7 @@ module _ (rs : List RulePlace) (n : ℕ) (ws : List ℕ) (at : ℕ) where
 
 module _ {rs ws : List ℕ} (kernels : Kernels rs ws) where
   module _ {s : ℕ} (in_sets : s < sets_in rs) where
-    pub item-inside : {f : Found} {i : ℕ} → f ≡ At i → Next ws (s * 18) 16 0 f → i < rules_in rs * 8
+    pub item-inside : {f : (Option ℕ)} {i : ℕ} → f ≡ Some i → Next ws (s * 18) 16 0 f → i < rules_in rs * 8
     item-inside {f} {i} e next =
         let l = next-at ws (s * 18) {n = 16} {from = 0} f next e in
         elim (dec_lt i (rules_in rs * 8)) [
@@ -134,13 +133,13 @@ module _ {rs ws : List ℕ} (kernels : Kernels rs ws) where
           | no h ↦ absurd (omega (arith, l.there, kernels.within s in_sets i (omega arith) (omega (arith, l.inside))))
         ]
 
-    pub symbol-first : {f : Found} {i x : ℕ} → f ≡ At i → Next ws (s * 18) 16 0 f
+    pub symbol-first : {f : (Option ℕ)} {i x : ℕ} → f ≡ Some i → Next ws (s * 18) 16 0 f
         → x ≡ before_dot (rule_at (view_rules rs) (i / 8)).right (i % 8) → x ≡ symbol_in rs ws s
     unfolding symbol_in
     symbol-first {f} e next q =
         q ∙ sym (first-symbol (view_rules rs) (rules_in rs) ws (s * 18) (item-inside e next) (next-at ws (s * 18) {n = 16} {from = 0} f next e))
 
-    pub symbol-none : {f : Found} → f ≡ Nothing → Next ws (s * 18) 16 0 f → 0 ≡ symbol_in rs ws s
+    pub symbol-none : {f : (Option ℕ)} → f ≡ None → Next ws (s * 18) 16 0 f → 0 ≡ symbol_in rs ws s
     unfolding symbol_in
     symbol-none {f} e next =
         sym (no_symbol (view_rules rs) (rules_in rs) ws (s * 18) kernels.laid.few_rules (next-nothing ws (s * 18) 16 0 f next e))

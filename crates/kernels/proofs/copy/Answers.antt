@@ -1,17 +1,10 @@
--- `kernels::copy` meets its contract. The invariant: the words are those at the entry, the first k written. Assumes nothing.
-use mathlib.Core.Path.{◌≡◌, sym}
-use native.Mathlib.Omega.{arith}
-use borrow.Author.Rules.{rules}
-use Rattle.kernels.proofs.Write.{write_none, write_more, write_end}
+-- `kernels::copy` meets its contract: the part is a copy of the other. Assumes nothing.
+use Rattle.std.proofs.Common.{ap, ◌∙◌, length, get_or, arith, rules}
+use Rattle.std.proofs.lemmas.List.{places}
+use Rattle.kernels.proofs.Parts.{part_written}
 use Rattle.kernels.proofs.copy.Goals as goal
-
-pub loop-k-init : goal.loop-k-init
-loop-k-init c = (search rules, search rules, sym (write_none _ _ _))
-
-pub loop-k-preserved : goal.loop-k-preserved
-loop-k-preserved c = (search rules, search rules, write_more _ _ _ _ c.loop-k.invariant.2)
 
 pub returns : goal.returns
 returns c =
-    let e : c.loop-k.k ≡ 16 = omega arith in
-    write_end _ _ _ e c.loop-k.invariant.2
+    let same = c.copy_from_slice.ensures.after in
+    part_written _ _ _ _ _ _ (omega arith) c.requires.0 (ap length same ∙ search (rules, places)) (λ j l. ap (λ ys. get_or ys j 0) same ∙ search (rules, places))

@@ -1,9 +1,5 @@
--- `kernels::count` meets its contract. The invariant: the sum is how many items the first k words have. Assumes nothing.
-use mathlib.Core.Path.{◌≡◌, refl, ap, ◌∙◌}
-use Prim.Native.Nat.{◌+◌, ◌*◌}
-use native.Mathlib.Omega.{arith}
-use borrow.Author.Rules.{rules}
-use lib.ListN.{get_or}
+-- `kernels::count` meets its contract: the sum is how many items the first k words have. Assumes nothing.
+use Rattle.std.proofs.Common.{◌≡◌, refl, ap, ◌∙◌, ◌+◌, ◌*◌, get_or, arith}
 use Rattle.laws.specs.Loops.{up_to}
 use Rattle.kernels.specs.Bit.{bit}
 use Rattle.kernels.specs.Walk.{how_many}
@@ -15,7 +11,7 @@ use Rattle.kernels.proofs.count.Goals as goal
 
 pub loop-k-init : goal.loop-k-init
 unfolding how_many up_to
-loop-k-init c = (search rules, refl)
+loop-k-init c = refl
 
 pub overflow_add-sum : goal.overflow_add-sum
 overflow_add-sum c =
@@ -26,13 +22,10 @@ overflow_add-sum c =
     omega (arith, c.ones-sum.ensures, many_le 64 (bit w) (bit_lt w), many_le (k * 64) h (has_lt a.words.now a.at))
 
 pub loop-k-preserved : goal.loop-k-preserved
-loop-k-preserved c =
-    let a = c.args in
-    (search rules, omega (arith, c.ones-sum.ensures, items_more a.words.now a.at c.loop-k.k))
+loop-k-preserved c = omega (arith, c.ones-sum.ensures, items_more c.args.words.now c.args.at c.loop-k.k)
 
 pub returns : goal.returns
 unfolding items
 returns c =
-    let a = c.args in
     let e : c.loop-k.k ≡ 16 = omega arith in
-    c.loop-k.invariant.1 ∙ ap (λ k. how_many (k * 64) (has a.words.now a.at)) e
+    c.loop-k.invariant ∙ ap (λ k. how_many (k * 64) (has c.args.words.now c.args.at)) e

@@ -1,25 +1,12 @@
--- `kernels::equal` meets its contract. The invariant: the first k words agree. Assumes nothing.
-use mathlib.Core.Path.{◌≡◌, refl, ap}
-use mathlib.Core.Bool.{not}
-use native.Mathlib.Omega.{arith}
-use borrow.Author.Tests.{eq-eqb, ne_eqb}
-use borrow.Author.Rules.{rules}
-use Rattle.laws.proofs.Loops.{all_none, all_more, all_end, all_fails}
+-- `kernels::equal` meets its contract: the two parts are compared. Assumes nothing.
+use Rattle.std.proofs.Common.{◌∙◌, ◌+◌, ◌-◌, arith}
 use Rattle.kernels.specs.Kernel.{same}
+use Rattle.kernels.proofs.Parts.{parts_same}
 use Rattle.kernels.proofs.equal.Goals as goal
-
-pub loop-k-init : goal.loop-k-init
-loop-k-init c = (search rules, all_none _)
-
-pub returns-then-a-i : goal.returns-then-a-i
-unfolding same
-returns-then-a-i c = all_fails _ {i = c.loop-k.k} (omega arith) refl (ap not (ne_eqb _ _ c.if-a-i.true))
-
-pub loop-k-preserved : goal.loop-k-preserved
-loop-k-preserved c = (search rules, all_more _ _ c.loop-k.invariant.1 (eq-eqb _ _ c.if-a-i.false))
 
 pub returns : goal.returns
 unfolding same
 returns c =
-    let e : c.loop-k.k ≡ 16 = omega arith in
-    all_end _ e c.loop-k.invariant.1
+    let i = c.args.i in
+    let j = c.args.j in
+    c.eq.ensures ∙ parts_same c.args.a.now c.args.b.now i j (i + 16 - i) (j + 16 - j) 16 (omega arith) (omega arith) c.requires.0 c.requires.1

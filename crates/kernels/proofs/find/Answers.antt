@@ -1,6 +1,5 @@
--- `kernels::find` meets its contract. The invariant: the answer is that from set s on. Assumes nothing.
-use mathlib.Core.Path.{sym, ◌∙◌}
-use native.Mathlib.Omega.{arith}
+-- `kernels::find` meets its contract: the answer is that from set s on. Assumes nothing.
+use Rattle.std.proofs.Common.{sym, ◌∙◌, arith}
 use Rattle.laws.proofs.Loops.{first-at, first-here, first_on, first-end}
 use Rattle.kernels.specs.Kernel.{find}
 use Rattle.kernels.proofs.find.Goals as goal

@@ -1,14 +1,8 @@
--- `kernels::is_empty` meets its contract. The invariant: the first k words are zero. Assumes nothing.
-use mathlib.Core.Path.{◌≡◌}
-use mathlib.Core.Bool.{true}
-use Prim.Native.Nat.{◌+◌, ◌-◌, ◌≤◌}
+-- `kernels::is_empty`: the first k words are zero.
+use Rattle.std.proofs.Common.{◌≡◌, ◌+◌, true, get_or}
 use lib.Dec.{eqb}
-use lib.ListN.{get_or}
 use Rattle.laws.specs.Loops.{all_below}
 use Rattle.kernels.proofs.is_empty.Given as goal
 
 abbrev pub invariant-loop-k : goal.invariant-loop-k
-invariant-loop-k l = (l.k ≤ 16) × (all_below l.k (λ m. eqb (get_or l.words (l.at + m) 0) 0) ≡ true)
-
-abbrev pub decreases-loop-k : goal.decreases-loop-k
-decreases-loop-k l = 16 - l.k
+invariant-loop-k l = all_below l.k (λ m. eqb (get_or l.words (l.at + m) 0) 0) ≡ true

@@ -1,10 +1,7 @@
--- `kernels::next` meets its contract. The invariant: there is no bit from `from` up to word i. Assumes nothing.
-use Prim.Native.Nat.{◌-◌, ◌*◌, ◌≤◌}
+-- `kernels::next`: there is no bit from `from` up to word i.
+use Rattle.std.proofs.Common.{◌*◌, ◌≤◌}
 use Rattle.kernels.proofs.NextBit.{NoneIn}
 use Rattle.kernels.proofs.next.Given as goal
 
 abbrev pub invariant-loop-i : goal.invariant-loop-i
-invariant-loop-i l = (l.from ≤ l.i * 64) × (l.i ≤ l.n) × NoneIn l.words l.at l.from (l.i * 64)
-
-abbrev pub decreases-loop-i : goal.decreases-loop-i
-decreases-loop-i l = l.n - l.i
+invariant-loop-i l = (l.from ≤ l.i * 64) × NoneIn l.words l.at l.from (l.i * 64)

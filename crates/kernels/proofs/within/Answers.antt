@@ -1,23 +1,20 @@
--- `kernels::within` meets its contract. The invariant: the first k words add no bit. Assumes nothing.
-use mathlib.Core.Path.{◌≡◌, refl, ap}
-use mathlib.Core.Bool.{not}
-use native.Mathlib.Omega.{arith}
+-- `kernels::within` meets its contract: the first k words add no bit. Assumes nothing.
+use Rattle.std.proofs.Common.{refl, ap, not, arith}
 use borrow.Author.Tests.{eq-eqb, ne_eqb}
-use borrow.Author.Rules.{rules}
 use Rattle.laws.proofs.Loops.{all_none, all_more, all_end, all_fails}
 use Rattle.kernels.specs.Kernel.{within}
 use Rattle.kernels.proofs.within.Goals as goal
 
 pub loop-k-init : goal.loop-k-init
-loop-k-init c = (search rules, all_none _)
+loop-k-init c = all_none _
 
 pub returns-then-a-i : goal.returns-then-a-i
 unfolding within
 returns-then-a-i c = all_fails _ {i = c.loop-k.k} (omega arith) refl (ap not (ne_eqb _ _ c.if-a-i.true))
 
 pub loop-k-preserved : goal.loop-k-preserved
-loop-k-preserved c = (search rules, all_more _ _ c.loop-k.invariant.1 (eq-eqb _ _ c.if-a-i.false))
+loop-k-preserved c = all_more _ _ c.loop-k.invariant (eq-eqb _ _ c.if-a-i.false)
 
 pub returns : goal.returns
 unfolding within
-returns c = let e : c.loop-k.k ≡ c.args.n = omega arith in all_end _ e c.loop-k.invariant.1
+returns c = all_end _ (omega arith) c.loop-k.invariant

@@ -1,19 +1,11 @@
--- `Rule::places_fit` meets its contract. The loop's invariant: the places passed fit. Assumes nothing.
-use native.Mathlib.Omega.{arith}
-use Rattle.laws.proofs.Loops.{all_none, all_fails, all_passes, all_end}
-use Rattle.symbols.specs.Rule.{places_fit}
+-- `Rule::places_fit` meets its contract: the test over the seven places. Assumes nothing.
+use Rattle.std.proofs.Common.{◌∙◌, rules, tests, refl}
+use Rattle.std.proofs.lemmas.Iterator.{YieldsList-from_range}
+use Rattle.std.proofs.lemmas.Iterator.Search.{all_from_yields_List}
+use Rattle.laws.proofs.Runs.{all-range}
+use Rattle.symbols.specs.Rule.{place_fits, places_fit}
 use Rattle.symbols.proofs.rule.Rule.places_fit.Goals as goal
-
-pub loop-k-init : goal.loop-k-init
-loop-k-init c = (omega arith, all_none _)
-
-pub returns-then-not-place_fits : goal.returns-then-not-place_fits
-unfolding places_fit
-returns-then-not-place_fits c = all_fails _ c.loop-k-test.true c.place_fits.ensures c.if-not-place_fits.true-raw
-
-pub loop-k-preserved : goal.loop-k-preserved
-loop-k-preserved c = (omega arith, all_passes _ c.loop-k.invariant.1 c.place_fits.ensures c.if-not-place_fits.false-raw)
 
 pub returns : goal.returns
 unfolding places_fit
-returns c = all_end _ (omega arith) c.loop-k.invariant.1
+returns c = all_from_yields_List (place_fits c.args.self) _ _ _ c.all.ensures.ran (YieldsList-from_range 0 7 7 refl refl) (λ x b q k. search (rules, tests)) ∙ all-range (place_fits c.args.self) 7
