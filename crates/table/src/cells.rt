@@ -1,8 +1,6 @@
 // The slice of cells: for each set its mark, then its targets on the symbols 1 to 127.
 ghost use Rattle.std.specs.Prelude.{◌≡◌, ◌+◌, ◌*◌, ◌<◌, ◌≤◌, length, get_or};
 
-use super::bytes::wide;
-
 // The cells of a set.
 pub const ROW: usize = 128;
 
@@ -28,5 +26,5 @@ pub fn target(cells: &[u8], s: usize, x: usize) -> usize
     requires { (s * 128 + 128 ≤ length cells.now) × (x < 128) }
     ensures { result ≡ get_or cells.now (s * 128 + x) 0 }
 {
-    wide(cells[s * ROW + x])
+    usize::from(cells[s * ROW + x])
 }

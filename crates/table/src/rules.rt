@@ -3,7 +3,6 @@ ghost use Rattle.std.specs.Prelude.{◌≡◌, ◌+◌, ◌*◌, ◌<◌, ◌≤
 ghost use Rattle.table.specs.Layout.{sets_in, rules_in, rule_number};
 ghost use Rattle.table.specs.Write.{rule_in, ten_of, put_rule};
 
-use super::bytes::wide;
 use symbols::{Rule, Symbol};
 
 // "Pools: 1 to 255 sets, 1 to 128 rules"
@@ -35,7 +34,7 @@ pub fn sets_in(rules: &[u8]) -> usize
     requires { 2 ≤ length rules.now }
     ensures { result ≡ sets_in rules.now }
 {
-    wide(rules[0])
+    usize::from(rules[0])
 }
 
 // How many rules it has room for.
@@ -43,7 +42,7 @@ pub fn rules_in(rules: &[u8]) -> usize
     requires { 2 ≤ length rules.now }
     ensures { result ≡ rules_in rules.now }
 {
-    wide(rules[1])
+    usize::from(rules[1])
 }
 
 // The state of rule r.
@@ -59,7 +58,7 @@ pub fn left(rules: &[u8], r: usize) -> usize
     requires { 2 + r * 10 + 10 ≤ length rules.now }
     ensures { result ≡ rule_number rules.now r 1 }
 {
-    wide(rules[SIZES + r * RULE + 1])
+    usize::from(rules[SIZES + r * RULE + 1])
 }
 
 // How many symbols the right side of rule r has.
@@ -67,7 +66,7 @@ pub fn len(rules: &[u8], r: usize) -> usize
     requires { 2 + r * 10 + 10 ≤ length rules.now }
     ensures { result ≡ rule_number rules.now r 2 }
 {
-    wide(rules[SIZES + r * RULE + 2])
+    usize::from(rules[SIZES + r * RULE + 2])
 }
 
 // Rule r as a record, whatever its state.
@@ -98,10 +97,8 @@ pub fn put_rule(rules: &mut [u8], r: usize, state: u8, x: Rule)
     ensures { rules.new ≡ put_rule rules.old r state x }
 {
     let at = SIZES + r * RULE;
-    let mut k: usize = 0;
-    while k < RULE {
+    for k in 0..RULE {
         rules[at + k] = number(state, x, k);
-        k += 1;
     }
 }
 

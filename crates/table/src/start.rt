@@ -11,11 +11,8 @@ pub fn put_starts(rules: &[u8], words: &mut [u64])
     requires { (2 + rules_in rules.now * 10 ≤ length rules.now) × (rules_in rules.now ≤ 128) × (16 ≤ length words.old) }
     ensures { words.new ≡ put_starts rules.now words.old }
 {
-    let n = rules_in(rules);
-    let mut r: usize = 0;
-    while r < n {
+    for r in 0..rules_in(rules) {
         put_start(rules, words, r);
-        r += 1;
     }
 }
 

@@ -1,17 +1,7 @@
--- `table::bytes::clear` meets its contract. The invariant: the first k numbers are zero. Assumes nothing.
-use mathlib.Core.Path.{◌≡◌, sym}
-use native.Mathlib.Omega.{arith}
-use borrow.Author.Rules.{rules}
-use Rattle.kernels.proofs.Write.{write_none, write_more, write_end}
+-- `table::bytes::clear` meets its contract: the part is filled with zeros. Assumes nothing.
+use Rattle.std.proofs.Common.{arith}
+use Rattle.kernels.proofs.Parts.{part_zeroed}
 use Rattle.table.proofs.bytes.clear.Goals as goal
 
-pub loop-k-init : goal.loop-k-init
-loop-k-init c = (search rules, search rules, sym (write_none _ _ _))
-
-pub loop-k-preserved : goal.loop-k-preserved
-loop-k-preserved c = (search rules, search rules, write_more _ _ _ _ c.loop-k.invariant.2)
-
 pub returns : goal.returns
-returns c =
-    let e : c.loop-k.k ≡ c.args.n = omega arith in
-    write_end _ _ _ e c.loop-k.invariant.2
+returns c = part_zeroed _ _ _ _ _ (omega arith) c.requires (c.fill.ensures.after (λ y e. e))

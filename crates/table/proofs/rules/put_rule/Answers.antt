@@ -7,11 +7,11 @@ use Rattle.table.specs.Write.{put_rule}
 use Rattle.table.proofs.rules.put_rule.Goals as goal
 
 pub loop-k-init : goal.loop-k-init
-loop-k-init c = (search rules, search rules, sym (write_none _ _ _))
+loop-k-init c = (search rules, sym (write_none _ _ _))
 
 pub loop-k-preserved : goal.loop-k-preserved
-loop-k-preserved c = (search rules, search rules, rw c.number.ensures (write_more _ _ _ _ c.loop-k.invariant.2))
+loop-k-preserved c = (search rules, rw c.number.ensures (write_more _ _ _ _ c.loop-k.invariant.1))
 
 pub returns : goal.returns
 unfolding put_rule
-returns c = let e : c.loop-k.k ≡ 10 = omega arith in write_end _ _ _ e c.loop-k.invariant.2
+returns c = let e : c.loop-k.k ≡ 10 = omega arith in write_end _ _ _ e c.loop-k.invariant.1
