@@ -18,3 +18,8 @@ is_at rs state x r = has_state rs state r and same_rule (rule_in rs r) x
 -- the lowest number below n that passes, or n
 abbrev pub lowest : ℕ → (ℕ → Bool) → ℕ
 lowest n f = firstIn f n (up_from 0 n)
+
+-- what a search has found: the lowest number below n that passes, if one does
+pub Lowest : ℕ → (ℕ → Bool) → Option ℕ → Type 0
+Lowest n f None = lowest n f ≡ n
+Lowest n f (Some r) = (r < n) × (r ≡ lowest n f)
