@@ -1,5 +1,5 @@
 -- The searches over the rules, as the code makes them. Assumes nothing.
-use Rattle.std.specs.Prelude.{Bool, List, ℕ, eqb}
+use Rattle.std.specs.Prelude.{◌≡◌, Bool, List, ℕ, ◌<◌, Option, Some, None, eqb}
 use Rattle.laws.specs.Choice.{◌and◌}
 use Rattle.laws.specs.Lists.{firstIn, up_from}
 use Rattle.symbols.specs.Rule.{same_rule}
@@ -20,6 +20,6 @@ abbrev pub lowest : ℕ → (ℕ → Bool) → ℕ
 lowest n f = firstIn f n (up_from 0 n)
 
 -- what a search has found: the lowest number below n that passes, if one does
-pub Lowest : ℕ → (ℕ → Bool) → Option ℕ → Type 0
+abbrev pub Lowest : ℕ → (ℕ → Bool) → Option ℕ → Type 0
 Lowest n f None = lowest n f ≡ n
 Lowest n f (Some r) = (r < n) × (r ≡ lowest n f)
