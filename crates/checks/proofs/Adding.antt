@@ -8,6 +8,7 @@ use native.Mathlib.Omega.{arith}
 use borrow.Author.Tests.{eq-eqb, ne_eqb, lt-ltb, le-ltb}
 use lib.Dec.{T, eqb}
 use lib.ListN.{length}
+use Rattle.std.specs.Prelude.{Some, None}
 use Rattle.laws.specs.Loops.{all_below}
 use Rattle.laws.specs.Lists.{someIn, up_from}
 use Rattle.laws.proofs.Choice.{when_yes, when_no}
@@ -31,7 +32,7 @@ use Rattle.table.specs.Laid.{FormedRules}
 use Rattle.table.proofs.Read.{rule_read, view-length}
 use Rattle.changes.specs.Change.{place_of}
 use Rattle.checks.specs.declared.find.Found.{Found}
-use Rattle.checks.specs.Find.{has_state, is_at, lowest}
+use Rattle.checks.specs.Find.{Lowest, has_state, is_at, lowest}
 use Rattle.checks.specs.Found.{with_sets, add_later, AddFound}
 use Rattle.checks.proofs.Search.{some-lowest, free_is, full_is}
 use Rattle.checks.proofs.Checked.{is-rule, rule_well, place_is, search_is}
@@ -63,12 +64,12 @@ module _ (rs : List ℕ) (x : ℕ) (w : List ℕ) (k : Checked) (c : RuleChecked
     rule = λ e. absurd (d e);
   }
 
-  module _ (f : FormedRules rs) (done : number_of k.answer ≡ 0) {n : ℕ} (size : n ≡ rules_in rs) (r : ℕ) (e : r ≡ lowest (rules_in rs) (is_at rs 1 k.rule)) where
-    current : r ≡ lowest_rule (is_rule CURRENT x w) (view_rules rs)
-    current = search_is x w k c done rs f 1 (omega arith) e
+  module _ (f : FormedRules rs) (done : number_of k.answer ≡ 0) where
+    current : lowest (rules_in rs) (is_at rs 1 k.rule) ≡ lowest_rule (is_rule CURRENT x w) (view_rules rs)
+    current = search_is x w k c done rs f 1 (omega arith) refl
 
     -- 15
-    pub add-there : r < n → AddFound rs x w (found There 0 k.rule)
+    pub add-there : lowest (rules_in rs) (is_at rs 1 k.rule) < rules_in rs → AddFound rs x w (found There 0 k.rule)
     add-there l =
         let below : lowest_rule (is_rule CURRENT x w) (view_rules rs) < length (view_rules rs) = omega (arith, current, view-length rs) in
         let some : someIn (is_rule CURRENT x w) (view_rules rs) ≡ true = some-lowest (is_rule CURRENT x w) (view_rules rs) ∙ lt-ltb _ _ below in
@@ -79,7 +80,7 @@ module _ (rs : List ℕ) (x : ℕ) (w : List ℕ) (k : Checked) (c : RuleChecked
           rule = λ z. absurd (omega arith);
         }
 
-    module _ (absent : n ≤ r) {b : Bool} (all : b ≡ all_below (rules_in rs) (has_state rs 1)) where
+    module _ (absent : lowest (rules_in rs) (is_at rs 1 k.rule) ≡ rules_in rs) {b : Bool} (all : b ≡ all_below (rules_in rs) (has_state rs 1)) where
       none : someIn (is_rule CURRENT x w) (view_rules rs) ≡ false
       none =
           let beyond : length (view_rules rs) ≤ lowest_rule (is_rule CURRENT x w) (view_rules rs) = omega (arith, current, view-length rs) in
@@ -101,42 +102,41 @@ module _ (rs : List ℕ) (x : ℕ) (w : List ℕ) (k : Checked) (c : RuleChecked
         past : (ss : List SetPlace) → add_in_form (with_sets rs ss) x w ≡ add_to (with_sets rs ss) x w
         past ss = sym (when_yes _ (eq-eqb _ _ (is-rule x w k c done)) (when_no _ none (when_no _ some refl)))
 
-        module _ (q : ℕ) (back : q ≡ lowest (rules_in rs) (is_at rs 2 k.rule)) where
-          number : q ≡ lowest_rule (is_rule WITHDRAWN x w) (view_rules rs)
-          number = search_is x w k c done rs f 2 (omega arith) back
+        number : lowest (rules_in rs) (is_at rs 2 k.rule) ≡ lowest_rule (is_rule WITHDRAWN x w) (view_rules rs)
+        number = search_is x w k c done rs f 2 (omega arith) refl
 
-          at : (ss : List SetPlace) {i j : ℕ} → i ≡ j → outcome 0 i (put_rule (with_sets rs ss) i (place_of CURRENT k.rule)) ≡ outcome 0 j (put_rule (with_sets rs ss) j (placed CURRENT x w))
-          at ss e = ap₂ (λ (i : ℕ) (p : RulePlace). outcome 0 i (put_rule (with_sets rs ss) i p)) e (place_is x w k c done CURRENT)
+        at : (ss : List SetPlace) {i j : ℕ} → i ≡ j → outcome 0 i (put_rule (with_sets rs ss) i (place_of CURRENT k.rule)) ≡ outcome 0 j (put_rule (with_sets rs ss) j (placed CURRENT x w))
+        at ss e = ap₂ (λ (i : ℕ) (p : RulePlace). outcome 0 i (put_rule (with_sets rs ss) i p)) e (place_is x w k c done CURRENT)
 
-          -- "a withdrawn rule that is equal takes its own number back"
-          pub add_back : {m : ℕ} → m ≡ rules_in rs → q < m → AddFound rs x w (found Done q k.rule)
-          add_back p l =
-              let below : lowest_rule (is_rule WITHDRAWN x w) (view_rules rs) < length (view_rules rs) = omega (arith, number, view-length rs) in
-              record {
-                refuses = λ z. absurd (z refl);
-                adds = λ _ _ ss. past ss ∙ sym (when_yes _ (lt-ltb _ _ below) (at ss number));
-                collects = λ _ h. absurd (omega arith);
-                rule = λ _. rule_well x w k c done;
-              }
+        -- "a withdrawn rule that is equal takes its own number back"
+        pub add_back : {q : ℕ} → Lowest (rules_in rs) (is_at rs 2 k.rule) (Some q) → AddFound rs x w (found Done q k.rule)
+        add_back {q} (l, e) =
+            let below : lowest_rule (is_rule WITHDRAWN x w) (view_rules rs) < length (view_rules rs) = omega (arith, number, view-length rs) in
+            record {
+              refuses = λ z. absurd (z refl);
+              adds = λ _ _ ss. past ss ∙ sym (when_yes _ (lt-ltb _ _ below) (at ss (e ∙ number)));
+              collects = λ _ h. absurd (omega arith);
+              rule = λ _. rule_well x w k c done;
+            }
 
-          -- "Otherwise the lowest free number; if none is free, collection comes first."
-          pub add_free : {m : ℕ} → m ≡ rules_in rs → m ≤ q → (i : ℕ) → i ≡ lowest (rules_in rs) (has_state rs 0) → AddFound rs x w (found Done i k.rule)
-          add_free p l i h =
-              let free : i ≡ lowest_rule is_free (view_rules rs) = h ∙ free_is rs in
-              let beyond : length (view_rules rs) ≤ lowest_rule (is_rule WITHDRAWN x w) (view_rules rs) = omega (arith, number, view-length rs) in
-              record {
-                refuses = λ z. absurd (z refl);
-                adds = λ _ j ss.
-                    let below : lowest_rule is_free (view_rules rs) < length (view_rules rs) = omega (arith, view-length rs) in
-                    past ss ∙ sym (when_no _ (le-ltb _ _ beyond) (when_yes _ (lt-ltb _ _ below) (at ss free)));
-                collects = λ _ j ss.
-                    let none_free : length (view_rules rs) ≤ lowest_rule is_free (view_rules rs) = omega (arith, view-length rs) in
-                    let later = free_after (view_rules rs) states some in (
-                      past ss ∙ sym (when_no _ (le-ltb _ _ beyond) (when_no _ (le-ltb _ _ none_free) (ap (add_later (with_sets rs ss)) (place_is x w k c done CURRENT)))),
-                      omega (arith, view-length rs),
-                    );
-                rule = λ _. rule_well x w k c done;
-              }
-            where
-              states : (r : ℕ) → r < length (view_rules rs) → (rule_at (view_rules rs) r).state ≤ WITHDRAWN
-              states r l = let m : r < rules_in rs = omega (arith, view-length rs) in subst (λ p. p.state ≤ WITHDRAWN) (sym (rule_read rs r m)) (f.form r m).states
+        -- "Otherwise the lowest free number; if none is free, collection comes first."
+        pub add_free : Lowest (rules_in rs) (is_at rs 2 k.rule) None → (i : ℕ) → i ≡ lowest (rules_in rs) (has_state rs 0) → AddFound rs x w (found Done i k.rule)
+        add_free e i h =
+            let free : i ≡ lowest_rule is_free (view_rules rs) = h ∙ free_is rs in
+            let beyond : length (view_rules rs) ≤ lowest_rule (is_rule WITHDRAWN x w) (view_rules rs) = omega (arith, number, view-length rs) in
+            record {
+              refuses = λ z. absurd (z refl);
+              adds = λ _ j ss.
+                  let below : lowest_rule is_free (view_rules rs) < length (view_rules rs) = omega (arith, view-length rs) in
+                  past ss ∙ sym (when_no _ (le-ltb _ _ beyond) (when_yes _ (lt-ltb _ _ below) (at ss free)));
+              collects = λ _ j ss.
+                  let none_free : length (view_rules rs) ≤ lowest_rule is_free (view_rules rs) = omega (arith, view-length rs) in
+                  let later = free_after (view_rules rs) states some in (
+                    past ss ∙ sym (when_no _ (le-ltb _ _ beyond) (when_no _ (le-ltb _ _ none_free) (ap (add_later (with_sets rs ss)) (place_is x w k c done CURRENT)))),
+                    omega (arith, view-length rs),
+                  );
+              rule = λ _. rule_well x w k c done;
+            }
+          where
+            states : (r : ℕ) → r < length (view_rules rs) → (rule_at (view_rules rs) r).state ≤ WITHDRAWN
+            states r l = let m : r < rules_in rs = omega (arith, view-length rs) in subst (λ p. p.state ≤ WITHDRAWN) (sym (rule_read rs r m)) (f.form r m).states

@@ -7,6 +7,7 @@ use Prim.Native.Nat.{ℕ, ◌≤◌, ◌<◌}
 use native.Mathlib.Omega.{arith}
 use borrow.Author.Tests.{eq-eqb, ne_eqb, lt-ltb, le-ltb}
 use lib.ListN.{length}
+use Rattle.std.specs.Prelude.{Some, None}
 use Rattle.laws.specs.Lists.{someIn}
 use Rattle.laws.proofs.Choice.{when_yes, when_no}
 use Rattle.symbols.specs.Answer.{number_of}
@@ -22,7 +23,7 @@ use Rattle.table.specs.Layout.{rules_in, view_rules}
 use Rattle.table.specs.Laid.{FormedRules}
 use Rattle.table.proofs.Read.{view-length}
 use Rattle.checks.specs.declared.find.Found.{Found}
-use Rattle.checks.specs.Find.{is_at, lowest}
+use Rattle.checks.specs.Find.{Lowest, is_at, lowest}
 use Rattle.checks.specs.Found.{with_sets, DeleteFound}
 use Rattle.checks.proofs.Search.{some-lowest}
 use Rattle.checks.proofs.Checked.{is-rule, rule_well, place_is, search_is}
@@ -40,13 +41,13 @@ module _ (rs : List ℕ) (x : ℕ) (w : List ℕ) (k : Checked) (c : RuleChecked
     rule = λ e. absurd (d e);
   }
 
-  module _ (f : FormedRules rs) (done : number_of k.answer ≡ 0) (r : ℕ) (e : r ≡ lowest (rules_in rs) (is_at rs 1 k.rule)) where
-    number : r ≡ lowest_rule (is_rule CURRENT x w) (view_rules rs)
-    number = search_is x w k c done rs f 1 (omega arith) e
+  module _ (f : FormedRules rs) (done : number_of k.answer ≡ 0) where
+    number : lowest (rules_in rs) (is_at rs 1 k.rule) ≡ lowest_rule (is_rule CURRENT x w) (view_rules rs)
+    number = search_is x w k c done rs f 1 (omega arith) refl
 
     -- 16
-    pub delete-absent : {n : ℕ} → n ≡ rules_in rs → n ≤ r → DeleteFound rs x w (found NotThere 0 k.rule)
-    delete-absent p l =
+    pub delete-absent : Lowest (rules_in rs) (is_at rs 1 k.rule) None → DeleteFound rs x w (found NotThere 0 k.rule)
+    delete-absent e =
         let beyond : length (view_rules rs) ≤ lowest_rule (is_rule CURRENT x w) (view_rules rs) = omega (arith, number, view-length rs) in
         let none : someIn (is_rule CURRENT x w) (view_rules rs) ≡ false = some-lowest (is_rule CURRENT x w) (view_rules rs) ∙ le-ltb _ _ beyond in
         record {
@@ -56,14 +57,14 @@ module _ (rs : List ℕ) (x : ℕ) (w : List ℕ) (k : Checked) (c : RuleChecked
           rule = λ z. absurd (omega arith);
         }
 
-    pub delete-there : {n : ℕ} → n ≡ rules_in rs → r < n → DeleteFound rs x w (found Done r k.rule)
-    delete-there p l =
+    pub delete-there : {r : ℕ} → Lowest (rules_in rs) (is_at rs 1 k.rule) (Some r) → DeleteFound rs x w (found Done r k.rule)
+    delete-there {r} (l, e) =
         let below : lowest_rule (is_rule CURRENT x w) (view_rules rs) < length (view_rules rs) = omega (arith, number, view-length rs) in
         let some : someIn (is_rule CURRENT x w) (view_rules rs) ≡ true = some-lowest (is_rule CURRENT x w) (view_rules rs) ∙ lt-ltb _ _ below in
         record {
           refuses = λ z. absurd (z refl);
           deletes = λ _ ss. sym (when_yes _ (eq-eqb _ _ (is-rule x w k c done)) (when_yes _ some
-              (ap₂ (λ (i : ℕ) (p : RulePlace). outcome 0 i (put_rule (with_sets rs ss) i p)) number (place_is x w k c done WITHDRAWN))));
-          inside = λ _. omega arith;
+              (ap₂ (λ (i : ℕ) (p : RulePlace). outcome 0 i (put_rule (with_sets rs ss) i p)) (e ∙ number) (place_is x w k c done WITHDRAWN))));
+          inside = λ _. l;
           rule = λ _. rule_well x w k c done;
         }

@@ -1,31 +1,21 @@
--- A rule's state, as a test. Assumes nothing.
-use mathlib.Core.Bool.{Bool, true, false}
-use mathlib.Core.List.{List}
-use mathlib.Core.Logic.{◌≢◌}
-use mathlib.Core.Path.{◌≡◌, sym, ap, ◌∙◌}
-use Prim.Native.Nat.{ℕ}
-use borrow.Author.Tests.{eq-eqb, ne_eqb}
-use Rattle.laws.proofs.Choice.{and_on, and_off}
-use Rattle.symbols.specs.Rule.{same_rule}
-use Rattle.symbols.specs.declared.rule.Rule.{Rule}
-use Rattle.table.specs.Layout.{rule_number}
-use Rattle.table.specs.Write.{rule_in}
-use Rattle.checks.specs.Find.{has_state, is_at}
+-- What a search has found, case by case. Assumes nothing.
+use mathlib.Core.Bool.{Bool, true, false, true≢false, false≢true}
+use mathlib.Core.Path.{◌≡◌, sym, ◌∙◌}
+use Prim.Native.Nat.{ℕ, ◌<◌}
+use native.Mathlib.Omega.{arith}
+use Rattle.std.specs.Option.{is_some, unwrap_or}
+use Rattle.std.specs.Prelude.{Option, Some, None}
+use Rattle.checks.specs.Find.{Lowest, lowest}
 
-module _ (rs : List ℕ) (state r : ℕ) {n : ℕ} (e : n ≡ rule_number rs r 0) where
-  pub state-is : n ≡ state → has_state rs state r ≡ true
-  unfolding has_state
-  state-is h = eq-eqb (rule_number rs r 0) state (sym e ∙ h)
+module _ (f : ℕ → Bool) {n : ℕ} where
+  pub lowest_or : {b : ℕ} → b ≡ n → (r : Option ℕ) → Lowest n f r → unwrap_or r b ≡ lowest n f
+  lowest_or e None l = e ∙ sym l
+  lowest_or e (Some i) l = l.1
 
-  pub state_not : n ≢ state → has_state rs state r ≡ false
-  unfolding has_state
-  state_not h = ne_eqb (rule_number rs r 0) state (λ z. h (e ∙ z))
+  pub some_below : (r : Option ℕ) → Lowest n f r → is_some r ≡ true → lowest n f < n
+  some_below None l e = absurd (false≢true e)
+  some_below (Some i) (h, l) e = omega arith
 
-module _ (rs : List ℕ) (state r : ℕ) (x : Rule) {n : ℕ} (e : n ≡ rule_number rs r 0) where
-  pub at_if : {y : Rule} {b : Bool} → n ≡ state → y ≡ rule_in rs r → b ≡ same_rule y x → b ≡ is_at rs state x r
-  unfolding is_at
-  at_if h q t = and_on (state-is rs state r e h) (t ∙ ap (λ y. same_rule y x) q)
-
-  pub at_not : n ≢ state → false ≡ is_at rs state x r
-  unfolding is_at
-  at_not h = and_off _ (state_not rs state r e h)
+  pub none_below : (r : Option ℕ) → Lowest n f r → is_some r ≡ false → lowest n f ≡ n
+  none_below None l e = l
+  none_below (Some i) l e = absurd (true≢false e)

@@ -1,5 +1,5 @@
 -- The searches over the rules, as the code makes them. Assumes nothing.
-use Rattle.std.specs.Prelude.{Bool, List, ℕ, eqb}
+use Rattle.std.specs.Prelude.{◌≡◌, Bool, List, ℕ, ◌<◌, Option, Some, None, eqb}
 use Rattle.laws.specs.Choice.{◌and◌}
 use Rattle.laws.specs.Lists.{firstIn, up_from}
 use Rattle.symbols.specs.Rule.{same_rule}
@@ -18,3 +18,8 @@ is_at rs state x r = has_state rs state r and same_rule (rule_in rs r) x
 -- the lowest number below n that passes, or n
 abbrev pub lowest : ℕ → (ℕ → Bool) → ℕ
 lowest n f = firstIn f n (up_from 0 n)
+
+-- what a search has found: the lowest number below n that passes, if one does
+abbrev pub Lowest : ℕ → (ℕ → Bool) → Option ℕ → Type 0
+Lowest n f None = lowest n f ≡ n
+Lowest n f (Some r) = (r < n) × (r ≡ lowest n f)

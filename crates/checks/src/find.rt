@@ -3,7 +3,7 @@ ghost use Rattle.std.specs.Prelude.{◌≡◌, ◌+◌, ◌*◌, ◌≤◌, leng
 ghost use Rattle.laws.specs.Loops.{all_below};
 ghost use Rattle.table.specs.Layout.{rules_in};
 ghost use Rattle.table.specs.Laid.{FormedRules};
-ghost use Rattle.checks.specs.Find.{has_state, is_at, lowest};
+ghost use Rattle.checks.specs.Find.{Lowest, has_state, is_at, lowest};
 ghost use Rattle.checks.specs.Found.{AddFound, DeleteFound};
 
 use symbols::{Answer, Rule};
@@ -31,18 +31,17 @@ pub fn check_delete(rules: &[u8], left: u8, right: &[u8]) -> Found
             rule,
         };
     }
-    let number = find(rules, table::CURRENT, rule);
-    if table::rules_in(rules) <= number {
-        return Found {
+    match find(rules, table::CURRENT, rule) {
+        Some(number) => Found {
+            answer: Answer::Done,
+            number,
+            rule,
+        },
+        None => Found {
             answer: Answer::NotThere,
             number: 0,
             rule,
-        };
-    }
-    Found {
-        answer: Answer::Done,
-        number,
-        rule,
+        },
     }
 }
 
@@ -62,51 +61,37 @@ pub fn check_add(rules: &[u8], left: u8, right: &[u8]) -> Found
             rule,
         };
     }
-    let there = find(rules, table::CURRENT, rule) < table::rules_in(rules);
-    let full = is_full(rules);
-    if there {
+    if find(rules, table::CURRENT, rule).is_some() {
         return Found {
             answer: Answer::There,
             number: 0,
             rule,
         };
     }
-    if full {
+    if is_full(rules) {
         return Found {
             answer: Answer::NoRules,
             number: 0,
             rule,
         };
     }
-    let back = find(rules, table::WITHDRAWN, rule);
-    if back < table::rules_in(rules) {
-        return Found {
-            answer: Answer::Done,
-            number: back,
-            rule,
-        };
-    }
+    let number = match find(rules, table::WITHDRAWN, rule) {
+        Some(back) => back,
+        None => lowest_free(rules),
+    };
     Found {
         answer: Answer::Done,
-        number: lowest_free(rules),
+        number,
         rule,
     }
 }
 
-// The lowest number with the rule in that state, or the number of places.
-fn find(rules: &[u8], state: u8, x: Rule) -> usize
+// The lowest number with the rule in that state.
+fn find(rules: &[u8], state: u8, x: Rule) -> Option<usize>
     requires { 2 + rules_in rules.now * 10 ≤ length rules.now }
-    ensures { result ≡ lowest (rules_in rules.now) (is_at rules.now state x) }
+    ensures { Lowest (rules_in rules.now) (is_at rules.now state x) result }
 {
-    let n = table::rules_in(rules);
-    let mut r: usize = 0;
-    while r < n {
-        if is_at(rules, state, x, r) {
-            return r;
-        }
-        r += 1;
-    }
-    n
+    (0..table::rules_in(rules)).find(|&r| is_at(rules, state, x, r))
 }
 
 // Whether rule r is x, in that state.
@@ -123,14 +108,9 @@ pub fn lowest_free(rules: &[u8]) -> usize
     ensures { result ≡ lowest (rules_in rules.now) (has_state rules.now 0) }
 {
     let n = table::rules_in(rules);
-    let mut r: usize = 0;
-    while r < n {
-        if table::state(rules, r) == table::FREE {
-            return r;
-        }
-        r += 1;
-    }
-    n
+    (0..n)
+        .find(|&r| table::state(rules, r) == table::FREE)
+        .unwrap_or(n)
 }
 
 // Whether every number is current.
@@ -138,13 +118,5 @@ fn is_full(rules: &[u8]) -> bool
     requires { 2 + rules_in rules.now * 10 ≤ length rules.now }
     ensures { result ≡ all_below (rules_in rules.now) (has_state rules.now 1) }
 {
-    let n = table::rules_in(rules);
-    let mut r: usize = 0;
-    while r < n {
-        if table::state(rules, r) != table::CURRENT {
-            return false;
-        }
-        r += 1;
-    }
-    true
+    (0..table::rules_in(rules)).all(|r| table::state(rules, r) == table::CURRENT)
 }

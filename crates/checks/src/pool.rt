@@ -7,26 +7,11 @@ ghost use Rattle.changes.specs.Change.{Fits};
 pub fn fits(rules: &[u8], cells: &[u8], words: &[u64], sets: usize, places: usize) -> bool
     ensures { Tells result (Fits (mem rules.now cells.now words.now) sets places) }
 {
-    if sets < 1 {
-        return false;
-    }
-    if table::MOST_SETS < sets {
-        return false;
-    }
-    if places < 1 {
-        return false;
-    }
-    if table::MOST_RULES < places {
-        return false;
-    }
-    if rules.len() < table::SIZES + places * table::RULE {
-        return false;
-    }
-    if cells.len() < sets * table::ROW {
-        return false;
-    }
-    if words.len() < sets * kernels::SET_WORDS {
-        return false;
-    }
-    true
+    1 <= sets
+        && sets <= table::MOST_SETS
+        && 1 <= places
+        && places <= table::MOST_RULES
+        && table::SIZES + places * table::RULE <= rules.len()
+        && sets * table::ROW <= cells.len()
+        && sets * kernels::SET_WORDS <= words.len()
 }

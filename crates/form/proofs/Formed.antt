@@ -2,20 +2,18 @@
 -- decided for any numbers. Assumes nothing.
 use mathlib.Core.Path.{◌≡◌, refl, sym, subst}
 use mathlib.Core.Logic.{◌↔◌, ◌⊎◌, inl, inr}
-use mathlib.Core.Bool.{Bool, true, false, not}
+use mathlib.Core.Bool.{Bool, true, false}
 use mathlib.Core.List.{List}
 use Prim.Native.Nat.{ℕ, ◌+◌, ◌*◌, ◌/◌, ◌%◌, ◌^◌, ◌≤◌, ◌<◌}
 use native.Mathlib.Omega.{arith}
-use borrow.Author.Tests.{not-false}
 use lib.Dec.{T, ltb, leb}
 use lib.ListN.{length, get_or}
 use Rattle.laws.specs.Choice.{◌and◌, Tells}
 use Rattle.laws.specs.Loops.{all_below}
-use Rattle.laws.proofs.Choice.{tells_yes}
 use Rattle.laws.proofs.Tests.{tests, and_both, all-below}
 use Rattle.laws.proofs.Tables.{length_tab}
 use Rattle.theory.specs.Form.{RuleInForm, SetInForm}
-use Rattle.table.specs.Layout.{Sets, Mem, sets, mem, sets_in, rules_in, rule_seen, set_seen, view_rules, view_sets}
+use Rattle.table.specs.Layout.{Sets, Mem, sets_in, rules_in, rule_seen, set_seen, view_rules, view_sets}
 use Rattle.table.specs.Laid.{Sized, LaidRule, LaidSet, Formed}
 use Rattle.table.proofs.Read.{rule_read, set_read}
 use Rattle.form.specs.Rules.{rule_fits, rules_fit}
@@ -125,20 +123,12 @@ module _ (m : Mem) (sized : Sized m.rules m.sets) (fits : Fits m) where
       go true e = formed-is.0 (subst T e tt)
       go false e = λ f. subst T (sym e) (formed-is.1 f)
 
--- ---- the code's answer, once it has found the sizes in range
+-- ---- the code's answer: the sizes first, and where they are in range, the tests of `formed`
 
-module _ (rs c w : List ℕ) (b : Bool) (tells : Tells b (Sized rs (sets c w))) (roomy : not b ≡ false) where
-  pub sized : Sized rs (sets c w)
-  sized = tells_yes b tells (not-false b roomy)
-
-  pub two_sizes : 2 ≤ length rs
-  two_sizes = let l = sized.rules in omega arith
-
-  pub room : {n : ℕ} → n ≡ sets_in rs → (n * 128 ≤ length c) × (n * 18 ≤ length w)
-  room e = let z = sized in (omega arith, omega arith)
-
-  pub answers : {r : Bool} → ((k : ℕ) → get_or w k 0 < 2 ^ 64) → r ≡ formed (mem rs c w) → Tells r (Formed (mem rs c w))
-  answers f e = tells_formed (mem rs c w) sized (λ k l. f k) e
+pub tells_whole : (m : Mem) (roomy : Bool) {r : Bool} → Tells roomy (Sized m.rules m.sets) → ((k : ℕ) → get_or m.sets.words k 0 < 2 ^ 64)
+    → (roomy ≡ true → r ≡ formed m) → (roomy ≡ false → r ≡ false) → Tells r (Formed m)
+tells_whole m true t f on off = tells_formed m t (λ k l. f k) (on refl)
+tells_whole m false t f on off = subst (λ b. Tells b (Formed m)) (sym (off refl)) (λ z. t z.laid.sized)
 
 -- ---- for any numbers
 

@@ -32,52 +32,29 @@ ghost use Rattle.form.specs.Formed.{start_fits, sets_fit};
 pub fn is_formed(rules: &[u8], cells: &[u8], words: &[u64]) -> bool
     ensures { Tells result (Formed (mem rules.now cells.now words.now)) }
 {
-    if !is_roomy(rules, cells, words) {
-        return false;
-    }
-    if !rules::all_fit(rules) {
-        return false;
-    }
-    if !rules::all_differ(rules) {
-        return false;
-    }
-    if !start_fits(rules, cells, words) {
-        return false;
-    }
-    if !sets_fit(rules, cells, words) {
-        return false;
-    }
-    sets::all_differ(cells, words, table::sets_in(rules))
+    is_roomy(rules, cells, words)
+        && rules::all_fit(rules)
+        && rules::all_differ(rules)
+        && start_fits(rules, cells, words)
+        && sets_fit(rules, cells, words)
+        && sets::all_differ(cells, words, table::sets_in(rules))
 }
 
 // Whether the sizes are in range and the slices as long as they need. (A byte is at most 255.)
 fn is_roomy(rules: &[u8], cells: &[u8], words: &[u64]) -> bool
     ensures { Tells result (Sized rules.now (sets cells.now words.now)) }
 {
-    if rules.len() < 2 {
+    if rules.len() < table::SIZES {
         return false;
     }
     let sets = table::sets_in(rules);
     let n = table::rules_in(rules);
-    if sets < 1 {
-        return false;
-    }
-    if n < 1 {
-        return false;
-    }
-    if table::MOST_RULES < n {
-        return false;
-    }
-    if rules.len() < table::SIZES + n * table::RULE {
-        return false;
-    }
-    if cells.len() < sets * table::ROW {
-        return false;
-    }
-    if words.len() < sets * kernels::SET_WORDS {
-        return false;
-    }
-    true
+    1 <= sets
+        && 1 <= n
+        && n <= table::MOST_RULES
+        && table::SIZES + n * table::RULE <= rules.len()
+        && sets * table::ROW <= cells.len()
+        && sets * kernels::SET_WORDS <= words.len()
 }
 
 // Whether the start set is in use and its kernel is that of the current START rules.

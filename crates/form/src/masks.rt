@@ -11,11 +11,8 @@ pub fn put_named(rules: &[u8], mask: &mut [u64], last: u8)
     requires short { Short rules.now }
     ensures { mask.new ≡ up_to (rules_in rules.now) (put_named rules.now last) mask.old }
 {
-    let n = table::rules_in(rules);
-    let mut r: usize = 0;
-    while r < n {
+    for r in 0..table::rules_in(rules) {
         put_rule(rules, mask, last, r);
-        r += 1;
     }
 }
 
@@ -25,15 +22,10 @@ fn put_rule(rules: &[u8], mask: &mut [u64], last: u8, r: usize)
     requires r_bound { rule_number rules.now r 2 ≤ 7 }
     ensures { mask.new ≡ put_named rules.now last r mask.old }
 {
-    let state = table::state(rules, r);
-    if state < table::CURRENT {
-        return;
+    if (table::CURRENT..=last).contains(&table::state(rules, r)) {
+        put_items(mask, r, table::len(rules, r) + 1);
+        kernels::put(mask, 0, kernels::ITEMS + r);
     }
-    if last < state {
-        return;
-    }
-    put_items(mask, r, table::len(rules, r) + 1);
-    kernels::put(mask, 0, kernels::ITEMS + r);
 }
 
 // Puts the items of rule r with a dot below n.
@@ -41,9 +33,7 @@ fn put_items(mask: &mut [u64], r: usize, n: usize)
     requires { (r < 128) × (n ≤ 8) × (length mask.old ≡ 18) }
     ensures { mask.new ≡ put_items r n mask.old }
 {
-    let mut d: usize = 0;
-    while d < n {
+    for d in 0..n {
         kernels::put(mask, 0, r * kernels::DOTS + d);
-        d += 1;
     }
 }

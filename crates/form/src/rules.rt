@@ -10,15 +10,7 @@ pub fn all_fit(rules: &[u8]) -> bool
     requires { 2 + rules_in rules.now * 10 ≤ length rules.now }
     ensures { result ≡ rules_fit rules.now }
 {
-    let n = table::rules_in(rules);
-    let mut r: usize = 0;
-    while r < n {
-        if !fits(rules, r) {
-            return false;
-        }
-        r += 1;
-    }
-    true
+    (0..table::rules_in(rules)).all(|r| fits(rules, r))
 }
 
 // Whether rule r is all zero or a rule in 01's words.
@@ -26,14 +18,11 @@ fn fits(rules: &[u8], r: usize) -> bool
     requires { 2 + r * 10 + 10 ≤ length rules.now }
     ensures { result ≡ rule_fits rules.now r }
 {
-    let state = table::state(rules, r);
-    if state == table::FREE {
-        return table::rule(rules, r).same(Rule::ZERO);
+    match table::state(rules, r) {
+        table::FREE => table::rule(rules, r).same(Rule::ZERO),
+        table::CURRENT | table::WITHDRAWN => table::rule(rules, r).is_well_formed(),
+        _ => false,
     }
-    if table::WITHDRAWN < state {
-        return false;
-    }
-    table::rule(rules, r).is_well_formed()
 }
 
 // Whether no two current or withdrawn rules are equal.
@@ -41,15 +30,7 @@ pub fn all_differ(rules: &[u8]) -> bool
     requires { 2 + rules_in rules.now * 10 ≤ length rules.now }
     ensures { result ≡ rules_differ rules.now }
 {
-    let n = table::rules_in(rules);
-    let mut r: usize = 0;
-    while r < n {
-        if !is_alone(rules, r) {
-            return false;
-        }
-        r += 1;
-    }
-    true
+    (0..table::rules_in(rules)).all(|r| is_alone(rules, r))
 }
 
 // Whether no rule before rule r is equal to it, unless r is free. A free one before it is not: its left symbol is zero.
@@ -61,12 +42,5 @@ fn is_alone(rules: &[u8], r: usize) -> bool
         return true;
     }
     let x = table::rule(rules, r);
-    let mut q: usize = 0;
-    while q < r {
-        if table::rule(rules, q).same(x) {
-            return false;
-        }
-        q += 1;
-    }
-    true
+    (0..r).all(|q| !table::rule(rules, q).same(x))
 }

@@ -11,14 +11,7 @@ pub fn all_fit(cells: &[u8], words: &[u64], n: usize, named: &[u64], current: &[
     requires named_len { (length named.now ≡ 18) × (length current.now ≡ 18) }
     ensures { result ≡ all_below n (set_fits n (sets cells.now words.now) named.now current.now) }
 {
-    let mut s: usize = 0;
-    while s < n {
-        if !fits(cells, words, n, named, current, s) {
-            return false;
-        }
-        s += 1;
-    }
-    true
+    (0..n).all(|s| fits(cells, words, n, named, current, s))
 }
 
 // Whether set s is as the form asks.
@@ -28,10 +21,9 @@ fn fits(cells: &[u8], words: &[u64], n: usize, named: &[u64], current: &[u64], s
     ensures { result ≡ set_fits n (sets cells.now words.now) named.now current.now s }
 {
     let mark = table::mark(cells, s);
-    if table::ACCEPTING < mark {
-        return false;
-    }
-    if !kernels::within(words, s * kernels::SET_WORDS, named, 0, kernels::SET_WORDS) {
+    if table::ACCEPTING < mark
+        || !kernels::within(words, s * kernels::SET_WORDS, named, 0, kernels::SET_WORDS)
+    {
         return false;
     }
     if mark < table::EXPANDED {
@@ -46,19 +38,11 @@ fn bare_fits(cells: &[u8], words: &[u64], s: usize) -> bool
     requires { (s * 128 + 128 ≤ length cells.now) × (s * 18 + 18 ≤ length words.now) }
     ensures { result ≡ bare_fits (sets cells.now words.now) s }
 {
-    if !are_zero(cells, s * table::ROW + 1, 127) {
-        return false;
-    }
-    if words[s * kernels::SET_WORDS + kernels::KERNEL_WORDS] != 0 {
-        return false;
-    }
-    if words[s * kernels::SET_WORDS + kernels::LAST_WORD] != 0 {
-        return false;
-    }
-    if table::mark(cells, s) != table::FREE {
-        return true;
-    }
-    kernels::is_empty(words, s * kernels::SET_WORDS)
+    are_zero(cells, s * table::ROW + 1, 127)
+        && words[s * kernels::SET_WORDS + kernels::KERNEL_WORDS] == 0
+        && words[s * kernels::SET_WORDS + kernels::LAST_WORD] == 0
+        && (table::mark(cells, s) != table::FREE
+            || kernels::is_empty(words, s * kernels::SET_WORDS))
 }
 
 // Whether the n cells from `at` on are zero. They are joined and tested once, so that many go at a time.
@@ -67,10 +51,8 @@ fn are_zero(cells: &[u8], at: usize, n: usize) -> bool
     ensures { result ≡ zeros cells.now at n }
 {
     let mut any: u8 = 0;
-    let mut k: usize = 0;
-    while k < n {
-        any = any | cells[at + k];
-        k += 1;
+    for k in 0..n {
+        any |= cells[at + k];
     }
     any == 0
 }
@@ -88,10 +70,7 @@ fn expanded_fits(cells: &[u8], words: &[u64], n: usize, current: &[u64], s: usiz
         0,
         kernels::KERNEL_WORDS,
     );
-    if !reductions_fit(words, current, only, s) {
-        return false;
-    }
-    targets_fit(cells, words, n, current, only, s)
+    reductions_fit(words, current, only, s) && targets_fit(cells, words, n, current, only, s)
 }
 
 // Whether the reductions are of current rules, if that is asked.
@@ -99,16 +78,14 @@ fn reductions_fit(words: &[u64], current: &[u64], only: bool, s: usize) -> bool
     requires { (s * 18 + 18 ≤ length words.now) × (length current.now ≡ 18) }
     ensures { result ≡ reductions_fit words.now current.now only s }
 {
-    if !only {
-        return true;
-    }
-    kernels::within(
-        words,
-        s * kernels::SET_WORDS + kernels::KERNEL_WORDS,
-        current,
-        kernels::KERNEL_WORDS,
-        kernels::REDUCTION_WORDS,
-    )
+    !only
+        || kernels::within(
+            words,
+            s * kernels::SET_WORDS + kernels::KERNEL_WORDS,
+            current,
+            kernels::KERNEL_WORDS,
+            kernels::REDUCTION_WORDS,
+        )
 }
 
 // Whether each of the 127 targets of set s fits.
@@ -116,15 +93,7 @@ fn targets_fit(cells: &[u8], words: &[u64], n: usize, current: &[u64], only: boo
     requires { (n * 128 ≤ length cells.now) × (n * 18 ≤ length words.now) × (s < n) × (length current.now ≡ 18) }
     ensures { result ≡ targets_fit n (sets cells.now words.now) current.now only s }
 {
-    let mut k: usize = 0;
-    while k < 127 {
-        let t = table::target(cells, s, 1 + k);
-        if !target_fits(cells, words, n, current, only, t) {
-            return false;
-        }
-        k += 1;
-    }
-    true
+    (1..table::ROW).all(|x| target_fits(cells, words, n, current, only, table::target(cells, s, x)))
 }
 
 // Whether t is no target, or a set in use, whose kernel names current rules only, if that is asked.
@@ -132,25 +101,17 @@ fn target_fits(cells: &[u8], words: &[u64], n: usize, current: &[u64], only: boo
     requires { (n * 128 ≤ length cells.now) × (n * 18 ≤ length words.now) × (length current.now ≡ 18) }
     ensures { result ≡ target_fits n (sets cells.now words.now) current.now only t }
 {
-    if t == 0 {
-        return true;
-    }
-    if n <= t {
-        return false;
-    }
-    if table::mark(cells, t) == table::FREE {
-        return false;
-    }
-    if !only {
-        return true;
-    }
-    kernels::within(
-        words,
-        t * kernels::SET_WORDS,
-        current,
-        0,
-        kernels::KERNEL_WORDS,
-    )
+    t == 0
+        || (t < n
+            && table::mark(cells, t) != table::FREE
+            && (!only
+                || kernels::within(
+                    words,
+                    t * kernels::SET_WORDS,
+                    current,
+                    0,
+                    kernels::KERNEL_WORDS,
+                )))
 }
 
 // Whether no two sets in use have equal kernels.
@@ -158,14 +119,7 @@ pub fn all_differ(cells: &[u8], words: &[u64], n: usize) -> bool
     requires { (n * 128 ≤ length cells.now) × (n * 18 ≤ length words.now) }
     ensures { result ≡ kernels_differ n (sets cells.now words.now) }
 {
-    let mut s: usize = 0;
-    while s < n {
-        if !is_alone(cells, words, s) {
-            return false;
-        }
-        s += 1;
-    }
-    true
+    (0..n).all(|s| is_alone(cells, words, s))
 }
 
 // Whether no set before s in use has its kernel, unless s is free.
@@ -173,17 +127,7 @@ fn is_alone(cells: &[u8], words: &[u64], s: usize) -> bool
     requires { (s * 128 + 128 ≤ length cells.now) × (s * 18 + 18 ≤ length words.now) }
     ensures { result ≡ kernel_alone (sets cells.now words.now) s }
 {
-    if table::mark(cells, s) == table::FREE {
-        return true;
-    }
-    let mut u: usize = 0;
-    while u < s {
-        if !differs(cells, words, s, u) {
-            return false;
-        }
-        u += 1;
-    }
-    true
+    table::mark(cells, s) == table::FREE || (0..s).all(|u| differs(cells, words, s, u))
 }
 
 // Whether set u is free or has another kernel than set s. Kernels mostly differ in their first words: they are looked at first.
@@ -191,9 +135,6 @@ fn differs(cells: &[u8], words: &[u64], s: usize, u: usize) -> bool
     requires { (s * 128 + 128 ≤ length cells.now) × (s * 18 + 18 ≤ length words.now) × (u < s) }
     ensures { result ≡ kernel_differs (sets cells.now words.now) s u }
 {
-    if kernels::equal(words, u * kernels::SET_WORDS, words, s * kernels::SET_WORDS) {
-        table::mark(cells, u) == table::FREE
-    } else {
-        true
-    }
+    !kernels::equal(words, u * kernels::SET_WORDS, words, s * kernels::SET_WORDS)
+        || table::mark(cells, u) == table::FREE
 }

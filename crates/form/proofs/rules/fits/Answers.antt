@@ -1,29 +1,21 @@
 -- `rules::fits` meets its contract: the state decides which test is asked. Assumes nothing.
-use mathlib.Core.Path.{ap₂, refl, ap, ◌∙◌}
+use mathlib.Core.Path.{sym, ap, ◌∙◌}
+use native.Mathlib.Omega.{arith}
 use borrow.Author.Tests.{eq-eqb, ne_eqb, le-leb, lt-leb}
-use lib.Dec.{eqb, leb}
 use Rattle.laws.proofs.Choice.{when_yes, when_no, and_on, and_off}
 use Rattle.symbols.specs.Rule.{well_formed, same_rule, rule_of}
-use Rattle.form.proofs.Turns.{via}
 use Rattle.form.specs.Rules.{rule_fits}
 use Rattle.form.proofs.rules.fits.Goals as goal
 
-pub returns-then-state-eq-FREE : goal.returns-then-state-eq-FREE
+pub returns-in-0 : goal.returns-in-0
 unfolding rule_fits rule_of
-returns-then-state-eq-FREE c =
-    when_yes _ (via (λ x. eqb x 0) c.state-state.ensures (eq-eqb _ _ c.if-state-eq-FREE.true))
-    (c.same.ensures ∙ ap₂ same_rule c.rule.ensures refl)
+returns-in-0 c = when_yes _ (eq-eqb _ _ (sym c.state.ensures ∙ c.in-0.is)) (c.same.ensures ∙ ap (λ x. same_rule x _) c.rule.ensures)
 
-pub returns-then-state-gt-WITHDRAWN : goal.returns-then-state-gt-WITHDRAWN
+pub returns-in-1 : goal.returns-in-1
 unfolding rule_fits
-returns-then-state-gt-WITHDRAWN c =
-    when_no _ (via (λ x. eqb x 0) c.state-state.ensures (ne_eqb _ _ c.if-state-eq-FREE.false))
-    (and_off _ (via (λ x. leb x 2) c.state-state.ensures (lt-leb _ _ c.if-state-gt-WITHDRAWN.true)))
+returns-in-1 c =
+    when_no _ (ne_eqb _ _ (λ z. omega arith)) (and_on (le-leb _ _ (omega arith)) (c.is_well_formed.ensures ∙ ap well_formed c.rule-in-1.ensures))
 
-pub returns : goal.returns
+pub returns-in_default : goal.returns-in_default
 unfolding rule_fits
-returns c =
-    when_no _
-    (via (λ x. eqb x 0) c.state-state.ensures (ne_eqb _ _ c.if-state-eq-FREE.false))
-    (and_on (via (λ x. leb x 2) c.state-state.ensures (le-leb _ _ c.if-state-gt-WITHDRAWN.false))
-    (c.is_well_formed.ensures ∙ ap well_formed c.rule-2.ensures))
+returns-in_default c = when_no _ (ne_eqb _ _ (λ z. omega arith)) (and_off _ (lt-leb _ _ (omega arith)))

@@ -1,0 +1,99 @@
+-- `(0..n).all(test)` is `all_below`, and `(0..n).find(test)` is `Lowest`. Assumes nothing.
+use mathlib.Core.Path.{◌≡◌, refl, sym, ap, ap₂, ◌∙◌}
+use mathlib.Core.Bool.{Bool, true, false, ◌&&◌}
+use mathlib.Core.List.{List}
+use Prim.Native.Nat.{ℕ, zero, suc, ◌+◌, ◌≤◌, ◌<◌}
+use native.Mathlib.Omega.{arith}
+use denote.Param.Members.{Mut}
+use denote.Ref.{Bor}
+use native.Mathlib.Decide.{ℕ_discrete}
+use Rattle.std.proofs.iter.Yields.{nat_range_steps}
+use Rattle.std.specs.Bool.{⊤}
+use Rattle.std.specs.Fn.{Called, CalledAt}
+use Rattle.std.specs.Iterator.{YieldsThen}
+use Rattle.std.specs.List.{FoldsTo, list_all, range_with_len}
+use Rattle.std.specs.Option.{MatchOption}
+use Rattle.std.specs.Prelude.{Option, Some, None}
+use Rattle.std.specs.declared.ops.Range.{Range}
+use Rattle.std.proofs.lemmas.Iterator.{YieldsList-from_range, first_from_Range}
+use Rattle.std.proofs.lemmas.Iterator.Search.{all_from_yields_List}
+use Rattle.laws.specs.Choice.{◌and◌}
+use Rattle.laws.specs.Loops.{all_below}
+use Rattle.laws.specs.Lists.{firstIn, up_from}
+use Rattle.laws.proofs.Choice.{when_yes, when_no}
+use Rattle.laws.proofs.Loops.{all_cong}
+use Rattle.checks.specs.Find.{Lowest}
+
+-- the first test, and then the others
+all_front : (f : ℕ → Bool) (n : ℕ) → all_below (suc n) f ≡ f 0 and all_below n (λ k. f (suc k))
+unfolding all_below ◌and◌
+all_front f zero = turned (f 0)
+  where
+    turned : (b : Bool) → b ≡ b and true
+    turned true = refl
+    turned false = refl
+all_front f (suc n) = ap (λ t. t and f (suc n)) (all_front f n) ∙ regrouped (f 0) (all_below n (λ k. f (suc k))) (f (suc n))
+  where
+    regrouped : (b c d : Bool) → (b and c) and d ≡ b and (c and d)
+    regrouped true c d = refl
+    regrouped false c d = refl
+
+in_order : (f : ℕ → Bool) (a n : ℕ) → list_all f (range_with_len a n) ≡ all_below n (λ k. f (a + k))
+unfolding all_below ◌and◌
+in_order f a zero = refl
+in_order f a (suc n) =
+    joined (f a) (list_all f (range_with_len (a + 1) n))
+    ∙ ap₂ ◌and◌ (ap f (omega arith)) (in_order f (a + 1) n ∙ all_cong (λ k. f (a + 1 + k)) (λ k. f (a + suc k)) n (λ k l. ap f (omega arith)))
+    ∙ sym (all_front (λ k. f (a + k)) n)
+  where
+    joined : (b c : Bool) → b && c ≡ b and c
+    joined true c = refl
+    joined false c = refl
+
+pub below_from_all : {F : Type 0} {g : Mut F (ℕ × Unit {0}) Bool} {s u : Range ℕ} {f : F} {r : Bool} (test : ℕ → Bool) {b n : ℕ}
+    → (xs : List ℕ) × (o : Option ℕ) × (j : F) × YieldsThen nat_range_steps s xs o u × FoldsTo (λ p x q. Called g p (x, tt) true q) f xs j
+    × MatchOption o (r ≡ true) (λ x. (r ≡ false) × ((h : F) × Called g j (x, tt) false h))
+    → s ≡ record { start = 0; end = b } → b ≡ n
+    → ((x : ℕ) (t : Bool) (q : F) → Called g f (x, tt) t q → (q ≡ f) × (t ≡ test x))
+    → r ≡ all_below n test
+below_from_all test {b} {n} ran e l calls =
+    all_from_yields_List test _ _ _ ran (YieldsList-from_range 0 b n e (omega arith)) calls
+    ∙ in_order test 0 n ∙ all_cong (λ k. test (0 + k)) test n (λ k h. ap test (omega arith))
+
+-- ---- `(0..n).find(test)` is `Lowest`
+
+module _ (test : ℕ → Bool) (d : ℕ) where
+  none_passes : (n k : ℕ) → ((j : ℕ) → k ≤ j → j < k + n → test j ≡ false) → d ≡ firstIn test d (up_from k n)
+  none_passes zero k none = refl
+  none_passes (suc n) k none =
+      when_no k (none k (omega arith) (omega arith)) (none_passes n (suc k) (λ j l h. none j (omega arith) (omega arith)))
+
+  first_passes : (n k i : ℕ) → k ≤ i → i < k + n → test i ≡ true → ((j : ℕ) → k ≤ j → j < i → test j ≡ false) → i ≡ firstIn test d (up_from k n)
+  first_passes zero k i l h e none = absurd (omega arith)
+  first_passes (suc n) k i l h e none = elim (ℕ_discrete i k) [
+    | yes q ↦ when_yes (firstIn test d (up_from (suc k) n)) (ap test (sym q) ∙ e) q
+    | no q ↦ when_no k (none k (omega arith) (omega arith)) (first_passes n (suc k) i (omega arith) (omega arith) e (λ j a b. none j (omega arith) b))
+  ]
+
+pub lowest_from_find : {F : Type 0} {g : Mut F (Bor ℕ × Unit {0}) Bool} {s : Range ℕ} {f : F} (test : ℕ → Bool) (u : Range ℕ) (r : Option ℕ) {b n : ℕ}
+    → (xs : List ℕ) × (j : F) × YieldsThen nat_range_steps s xs r u × FoldsTo (λ p x q. CalledAt g p x false q) f xs j
+    × MatchOption r ⊤ (λ x. (h : F) × CalledAt g j x true h)
+    → s ≡ record { start = 0; end = b } → b ≡ n
+    → ((x : ℕ) (t : Bool) (q : F) → CalledAt g f x t q → (q ≡ f) × (t ≡ test x))
+    → Lowest n test r
+lowest_from_find {F} {g} {s} {f} test u r {b} {n} ran e l calls =
+    says r (first_from_Range s u f r (λ x. test x ≡ true) (λ x. test x ≡ false) ran (λ x q k. sym (calls x true q k).1) (λ x q k. ((calls x false q k).0, sym (calls x false q k).1)))
+  where
+    start : s.start ≡ 0
+    start = ap (λ t. t.start) e
+
+    end : s.end ≡ n
+    end = ap (λ t. t.end) e ∙ l
+
+    says : (o : Option ℕ)
+        → MatchOption o ((k : ℕ) → s.start ≤ k → k < s.end → test k ≡ false)
+        (λ i. (s.start ≤ i) × (i < s.end) × (test i ≡ true) × ((k : ℕ) → s.start ≤ k → k < i → test k ≡ false))
+        → Lowest n test o
+    says None none = sym (none_passes test n n 0 (λ j a h. none j (omega (arith, start)) (omega (arith, end))))
+    says (Some i) (a, h, t, none) =
+        (omega (arith, end), first_passes test n n 0 i (omega arith) (omega (arith, end)) t (λ j p q. none j (omega (arith, start)) q))
