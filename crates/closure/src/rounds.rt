@@ -71,11 +71,8 @@ fn add_rules(rules: &[u8], closure: &mut [u64], b: Symbol)
     requires { FormedRules rules.now × (length closure.old ≡ 16) }
     ensures { closure.new ≡ up_to (rules_in rules.now) (put_rule (view_rules rules.now) b.0) closure.old }
 {
-    let n = table::rules_in(rules);
-    let mut r = 0;
-    while r < n {
+    for r in 0..table::rules_in(rules) {
         add_rule(rules, closure, b, r);
-        r += 1;
     }
 }
 

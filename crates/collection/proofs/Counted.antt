@@ -10,7 +10,7 @@ use native.Mathlib.Omega.{arith}
 use borrow.Author.Tests.{eq-eqb, ne_eqb, lt-ltb, le-ltb}
 use lib.Dec.{eqb, ltb}
 use lib.ListN.{length, get_or}
-use Rattle.laws.specs.Choice.{when}
+use mir.Val.{bool_byte}
 use Rattle.laws.specs.Loops.{tabFrom}
 use Rattle.laws.specs.Lists.{consIf, keep, firstIn, up_from}
 use Rattle.laws.proofs.Tables.{length_tab}
@@ -26,9 +26,6 @@ use Rattle.collection.specs.Room.{InTables}
 
 -- ---- a mark
 
-one : Bool → ℕ
-one b = when b 1 0
-
 free_mark : (m : ℕ) → eqb (state_of m) FREE ≡ eqb m 0
 free_mark zero = refl
 free_mark (suc zero) = refl
@@ -37,33 +34,28 @@ free_mark (suc (suc m)) = sym (ne_eqb (suc (suc m)) 0 (λ z. omega arith))
 -- ---- how many
 
 module _ {A : Type 0} where
-  length_if : (b : Bool) (x : A) (l : List A) → length (consIf b x l) ≡ one b + length l
-  unfolding one when
+  length_if : (b : Bool) (x : A) (l : List A) → length (consIf b x l) ≡ bool_byte b + length l
   length_if true x l = omega arith
   length_if false x l = omega arith
 
   -- one more at the end of a table
-  from_more : (f : A → Bool) (i n : ℕ) (g : ℕ → A) → length (keep f (tabFrom i (suc n) g)) ≡ length (keep f (tabFrom i n g)) + one (f (g (i + n)))
-  from_more f i zero g = let e : one (f (g i)) ≡ one (f (g (i + 0))) = ap (λ k. one (f (g k))) (omega arith) in omega (arith, length_if (f (g i)) (g i) [])
+  from_more : (f : A → Bool) (i n : ℕ) (g : ℕ → A) → length (keep f (tabFrom i (suc n) g)) ≡ length (keep f (tabFrom i n g)) + bool_byte (f (g (i + n)))
+  from_more f i zero g = let e : bool_byte (f (g i)) ≡ bool_byte (f (g (i + 0))) = ap (λ k. bool_byte (f (g k))) (omega arith) in omega (arith, length_if (f (g i)) (g i) [])
   from_more f i (suc n) g =
-      let e : one (f (g (suc i + n))) ≡ one (f (g (i + suc n))) = ap (λ k. one (f (g k))) (omega arith) in
+      let e : bool_byte (f (g (suc i + n))) ≡ bool_byte (f (g (i + suc n))) = ap (λ k. bool_byte (f (g k))) (omega arith) in
       omega (arith, length_if (f (g i)) (g i) (keep f (tabFrom (suc i) (suc n) g)), length_if (f (g i)) (g i) (keep f (tabFrom (suc i) n g)), from_more f (suc i) n g)
 
 -- r of the sets below s are free, whatever rules and words stand beside the cells
 pub record FreeBelow (cells : List ℕ) (s r : ℕ) : Type 0 where
   pub count : (n : ℕ) (ws : List ℕ) → r ≡ free_sets (view_sets s n (sets cells ws))
 
-pub free_none : {cells : List ℕ} → FreeBelow cells 0 0
-free_none = record { count = λ n ws. refl }
-
-pub free_more : {cells : List ℕ} {s r k : ℕ} → FreeBelow cells s r → k ≡ when (eqb (get_or cells (s * 128) 0) 0) 1 0 → FreeBelow cells (s + 1) (r + k)
-unfolding one
+pub free_more : {cells : List ℕ} {s r k : ℕ} → FreeBelow cells s r → k ≡ bool_byte (eqb (get_or cells (s * 128) 0) 0) → FreeBelow cells (s + 1) (r + k)
 free_more {cells} {s} {r} {k} h e = record {
   count = λ n ws.
       let g = set_seen n (sets cells ws) in
       let f : SetPlace → Bool = λ p. eqb p.state FREE in
-      let m : one (f (g (0 + s))) ≡ k =
-      ap (λ j. one (f (g j))) (omega arith) ∙ ap one (free_mark (cell_of cells s 0)) ∙ ap (λ p. one (eqb (get_or cells p 0) 0)) (omega arith) ∙ sym e in
+      let m : bool_byte (f (g (0 + s))) ≡ k =
+      ap (λ j. bool_byte (f (g j))) (omega arith) ∙ ap bool_byte (free_mark (cell_of cells s 0)) ∙ ap (λ p. bool_byte (eqb (get_or cells p 0) 0)) (omega arith) ∙ sym e in
       ap₂ ◌+◌ (h.count n ws) (sym m) ∙ sym (from_more f 0 s g) ∙ ap (λ j. free_sets (view_sets j n (sets cells ws))) (sym (add-one s));
 }
 
@@ -72,11 +64,10 @@ free_end {cells} e h = record { exact = λ rs ws q. h.count (rules_in rs) ws ∙
 
 -- ---- free or in use
 
-either : (n : ℕ) → one (ltb 0 n) + one (eqb n FREE) ≡ 1
-unfolding one when
+either : (n : ℕ) → bool_byte (ltb 0 n) + bool_byte (eqb n FREE) ≡ 1
 either n = elim (ℕ_discrete n 0) [
-  | yes z ↦ ap₂ (λ a b. one a + one b) (le-ltb 0 n (omega arith)) (eq-eqb n 0 z)
-  | no d ↦ ap₂ (λ a b. one a + one b) (lt-ltb 0 n (omega arith)) (ne_eqb n 0 d)
+  | yes z ↦ ap₂ (λ a b. bool_byte a + bool_byte b) (le-ltb 0 n (omega arith)) (eq-eqb n 0 z)
+  | no d ↦ ap₂ (λ a b. bool_byte a + bool_byte b) (lt-ltb 0 n (omega arith)) (ne_eqb n 0 d)
 ]
 
 used_or_free : (ss : List SetPlace) → length (keep (λ p. ltb 0 p.state) ss) + free_sets ss ≡ length ss

@@ -1,17 +1,11 @@
 -- `collection::room::free_sets` meets its contract. The invariant: how many of the first s sets are free. Assumes nothing.
-use mathlib.Core.Path.{◌≡◌, refl}
+use mathlib.Core.Path.{refl}
 use native.Mathlib.Omega.{arith}
-use Rattle.collection.proofs.Counted.{free_none, free_more, free_end, free_fits}
+use Rattle.collection.proofs.Counted.{free_more, free_end, free_fits}
 use Rattle.collection.proofs.room.free_sets.Goals as goal
 
-pub loop-s-init : goal.loop-s-init
-loop-s-init c = (omega arith, free_none)
-
 pub overflow_add-free : goal.overflow_add-free
-overflow_add-free c = omega (arith, free_fits (free_end refl (free_more c.loop-s.invariant.1 c.one_if_free-free.ensures)))
+overflow_add-free c = omega (arith, free_fits (free_end refl (free_more c.loop-s.invariant c.from-free.ensures)))
 
 pub loop-s-preserved : goal.loop-s-preserved
-loop-s-preserved c = (omega arith, free_more c.loop-s.invariant.1 c.one_if_free-free.ensures)
-
-pub returns : goal.returns
-returns c = let e : c.loop-s.s ≡ c.args.sets = omega arith in free_end e c.loop-s.invariant.1
+loop-s-preserved c = free_more c.loop-s.invariant c.from-free.ensures
