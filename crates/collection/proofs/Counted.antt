@@ -11,6 +11,7 @@ use borrow.Author.Tests.{eq-eqb, ne_eqb, lt-ltb, le-ltb}
 use lib.Dec.{eqb, ltb}
 use lib.ListN.{length, get_or}
 use mir.Val.{bool_byte}
+use Rattle.laws.specs.Choice.{when}
 use Rattle.laws.specs.Loops.{tabFrom}
 use Rattle.laws.specs.Lists.{consIf, keep, firstIn, up_from}
 use Rattle.laws.proofs.Tables.{length_tab}
@@ -35,6 +36,7 @@ free_mark (suc (suc m)) = sym (ne_eqb (suc (suc m)) 0 (λ z. omega arith))
 
 module _ {A : Type 0} where
   length_if : (b : Bool) (x : A) (l : List A) → length (consIf b x l) ≡ bool_byte b + length l
+  unfolding when
   length_if true x l = omega arith
   length_if false x l = omega arith
 
