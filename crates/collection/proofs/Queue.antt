@@ -3,13 +3,14 @@ use mathlib.Core.Path.{◌≡◌, refl, sym, ap, ◌∙◌, subst}
 use mathlib.Core.Logic.{inl, inr, ⊎_elim}
 use mathlib.Core.Bool.{Bool, true, false}
 use mathlib.Core.List.{List}
-use Prim.Native.Nat.{ℕ, ◌+◌, ◌*◌, ◌/◌, ◌<◌}
+use Prim.Native.Nat.{ℕ, ◌+◌, ◌-◌, ◌*◌, ◌/◌, ◌<◌}
 use native.Mathlib.Nat.{le_refl, le_trans, lt_of_lt_of_le}
 use native.Mathlib.Decide.{ℕ_discrete}
 use native.Mathlib.Omega.{arith}
 use borrow.Author.Tests.{eqb-true, eqb-false}
-use lib.ListN.{length, get_or, set, length-set}
+use lib.ListN.{length, get_or, set, length-set, take, drop}
 use lib.Seq.{get_or-set_same, get_or-set_other}
+use Rattle.std.proofs.lemmas.List.{get_or-take, get_or-drop, length-take}
 use Rattle.kernels.specs.Kernel.{has, holds, put}
 use Rattle.kernels.specs.Walk.{how_many}
 use Rattle.kernels.proofs.Walk.{many_le, many-put}
@@ -86,14 +87,18 @@ adds_keep {b = b} q p s h =
     subst (λ s. has b 0 s ≡ 1) (p.kept j i ∙ e) (p.queued.marked j (omega (arith, p.more)))
 
 -- many, and one more behind them
-pub adds-next : {k : ℕ} (f : ℕ → ℕ) {a x b y c z : List ℕ} {l m n : ℕ} → Adds k f a x l b y m → Adds 1 (λ j. f k) b y m c z n → Adds (k + 1) f a x l c z n
-adds-next {k} f {c = c} p q = record {
+pub adds-next : {k : ℕ} (f : ℕ → ℕ) {a x b y c z : List ℕ} {l m n t : ℕ} → Adds k f a x l b y m → t ≡ f k → Adds 1 (λ j. t) b y m c z n → Adds (k + 1) f a x l c z n
+adds-next {k} f {c = c} p e q = record {
   queued = q.queued;
   more = le_trans p.more q.more;
   kept = λ j h. q.kept j (omega (arith, p.more)) ∙ p.kept j h;
-  there = λ j h. elim (ℕ_discrete j k) [ yes e ↦ subst (λ j. has c 0 (f j) ≡ 1) (sym e) (q.there 0 (omega arith)) | no d ↦ adds_keep p.queued q (f j) (p.there j (omega arith)) ];
-  only = λ s h. ⊎_elim (λ e. ⊎_elim inl (λ (j, i, e). inr (j, omega arith, e)) (p.only s e)) (λ (j, i, e). inr (k, omega arith, e)) (q.only s h);
+  there = λ j h. elim (ℕ_discrete j k) [ yes d ↦ ap (has c 0) (ap f d ∙ sym e) ∙ q.there 0 (omega arith) | no d ↦ adds_keep p.queued q (f j) (p.there j (omega arith)) ];
+  only = λ s h. ⊎_elim (λ d. ⊎_elim inl (λ (j, i, d). inr (j, omega arith, d)) (p.only s d)) (λ (j, i, d). inr (k, omega arith, sym e ∙ d)) (q.only s h);
 }
 
-pub adds-end : {k n : ℕ} (f : ℕ → ℕ) {a x b y : List ℕ} {l m : ℕ} → k ≡ n → Adds k f a x l b y m → Adds n f a x l b y m
-adds-end f {a} {x} {b} {y} {l} {m} e p = subst (λ k. Adds k f a x l b y m) e p
+-- the targets of set s, as the code cuts them out of its row
+pub target-at : (cells : List ℕ) (s k : ℕ) → k < length (take (s * 128 + 128 - (s * 128 + 1)) (drop (s * 128 + 1) cells))
+    → get_or (take (s * 128 + 128 - (s * 128 + 1)) (drop (s * 128 + 1) cells)) k 0 ≡ cell_of cells s (k + 1)
+target-at cells s k l =
+    let n = s * 128 + 128 - (s * 128 + 1) in
+    get_or-take n (drop (s * 128 + 1) cells) k 0 (omega (arith, length-take n (drop (s * 128 + 1) cells))) ∙ get_or-drop (s * 128 + 1) cells k 0 ∙ ap (λ p. get_or cells p 0) (omega arith)
