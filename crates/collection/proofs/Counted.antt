@@ -1,16 +1,20 @@
 -- How many sets are free, and which is the lowest, from the sets' marks. Assumes nothing.
 use mathlib.Core.Bool.{Bool, true, false}
 use mathlib.Core.List.{List, [], ◌∷◌}
-use mathlib.Core.Path.{◌≡◌, refl, sym, ap, ap₂, ◌∙◌}
+use mathlib.Core.Path.{◌≡◌, refl, sym, ap, ap₂, subst, ◌∙◌}
 use mathlib.Core.Logic.{◌≢◌}
 use Prim.Native.Nat.{ℕ, zero, suc, pred, ◌+◌, ◌-◌, ◌*◌, ◌≤◌, ◌<◌}
-use native.Mathlib.Decide.{ℕ_discrete}
+use native.Mathlib.Nat.{le_refl}
+use native.Mathlib.Decide.{ℕ_discrete, dec_lt}
 use native.Mathlib.Numerals.{add-one}
 use native.Mathlib.Omega.{arith}
 use borrow.Author.Tests.{eq-eqb, ne_eqb, lt-ltb, le-ltb}
 use lib.Dec.{eqb, ltb}
 use lib.ListN.{length, get_or}
 use mir.Val.{bool_byte}
+use Rattle.std.proofs.Common.{Option, Some, None}
+use Rattle.std.specs.Prelude.{MatchOption}
+use Rattle.std.specs.Option.{unwrap_or}
 use Rattle.laws.specs.Choice.{when}
 use Rattle.laws.specs.Loops.{tabFrom}
 use Rattle.laws.specs.Lists.{consIf, keep, firstIn, up_from}
@@ -20,7 +24,7 @@ use Rattle.theory.specs.Table.{FREE, SetPlace, set_at, in_use}
 use Rattle.theory.specs.Expansion.{free_sets, lowest_free}
 use Rattle.table.specs.Layout.{sets, mem, sets_in, rules_in, state_of, set_seen, view, view_sets}
 use Rattle.table.proofs.Read.{set_read}
-use Rattle.laws.proofs.Loops.{firstFrom}
+use Rattle.laws.proofs.Loops.{firstFrom, first-here, first_on, first-end}
 use Rattle.laws.proofs.Chosen.{first_cong}
 use Rattle.collection.specs.Reach.{cell_of}
 use Rattle.collection.specs.Room.{InTables}
@@ -89,6 +93,21 @@ rest-used {cells} {S} {r} h = record {
 
 -- ---- the lowest
 
+module _ (f : ℕ → Bool) (d n : ℕ) where
+  -- no number from a on passes the test
+  none-from : (m a : ℕ) → n ≤ a + m → ((k : ℕ) → a ≤ k → k < n → f k ≡ false) → d ≡ firstFrom f d n a
+  none-from zero a l none = first-end f d n refl (omega arith)
+  none-from (suc m) a l none = elim (dec_lt a n) [
+    | yes p ↦ none-from m (a + 1) (omega arith) (λ k q. none k (omega arith)) ∙ sym (first_on f d n refl p (none a (le_refl a) p))
+    | no p ↦ first-end f d n refl (omega arith)
+  ]
+
+  -- i is the first that does
+  module _ (i : ℕ) (l : i < n) (here : f i ≡ true) where
+    first-from : (m a : ℕ) → a + m ≡ i → ((k : ℕ) → a ≤ k → k < i → f k ≡ false) → i ≡ firstFrom f d n a
+    first-from zero a e none = let z : i ≡ a = omega arith in subst (λ a. i ≡ firstFrom f d n a) z (first-here f d n refl l here)
+    first-from (suc m) a e none = first-from m (a + 1) (omega arith) (λ k q. none k (omega arith)) ∙ sym (first_on f d n refl (omega arith) (none a (le_refl a) (omega arith)))
+
 -- set t is free
 pub is_free : List ℕ → ℕ → Bool
 is_free cells t = eqb (cell_of cells t 0) 0
@@ -122,3 +141,12 @@ module _ (cells : List ℕ) where
         ∙ first_cong (is_free cells) (λ t. eqb (set_at v t).state FREE) 0 (up_from 1 (pred (length v)))
         (λ t m. let (p, q) = (in_up 1 (pred (length v))).0 m in free_seen rs ws t (omega arith));
   }
+
+  -- what `find` says of the sets from 1 on
+  pub lowest-found : {S x : ℕ} (r : Option ℕ)
+      → MatchOption r ((k : ℕ) → 1 ≤ k → k < S → get_or cells (k * 128) 0 ≢ 0) (λ i. (1 ≤ i) × (i < S) × (get_or cells (i * 128) 0 ≡ 0) × ((k : ℕ) → 1 ≤ k → k < i → get_or cells (k * 128) 0 ≢ 0))
+      → x ≡ unwrap_or r 0 → InTables S cells (λ t. lowest_free t.sets) x
+  lowest-found {S} None none e = lowest-end (e ∙ none-from (is_free cells) 0 S S 1 (omega arith) (λ k p q. not_free k (none k p q)))
+  lowest-found {S} (Some i) (p, q, here, none) e =
+      let z : 1 + (i - 1) ≡ i = omega arith in
+      lowest-end (e ∙ first-from (is_free cells) 0 S i q (is_free_lem i here) (i - 1) 1 z (λ k a b. not_free k (none k a b)))

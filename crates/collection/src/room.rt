@@ -29,10 +29,5 @@ pub fn lowest_free(cells: &[u8], sets: usize) -> usize
     requires { sets * 128 ≤ length cells.now }
     ensures { InTables sets cells.now (λ t. lowest_free t.sets) result }
 {
-    for s in 1..sets {
-        if cells[s * table::ROW] == table::FREE {
-            return s;
-        }
-    }
-    0
+    (1..sets).find(|&s| cells[s * table::ROW] == table::FREE).unwrap_or(0)
 }
