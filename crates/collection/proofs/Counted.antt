@@ -11,8 +11,9 @@ use native.Mathlib.Omega.{arith}
 use borrow.Author.Tests.{eq-eqb, ne_eqb, lt-ltb, le-ltb}
 use lib.Dec.{eqb, ltb}
 use lib.ListN.{length, get_or}
-use mir.Val.{bool_byte}
-use Rattle.std.proofs.Common.{Option, Some, None}
+use Rattle.std.proofs.Common.{Option, Some, None, cond, count_by}
+use Rattle.std.specs.List.{range_with_len}
+use Rattle.std.proofs.lemmas.List.Sums.{sum_by-cons}
 use Rattle.std.specs.Prelude.{MatchOption}
 use Rattle.std.specs.Option.{unwrap_or}
 use Rattle.laws.specs.Choice.{when}
@@ -38,42 +39,37 @@ free_mark (suc (suc m)) = sym (ne_eqb (suc (suc m)) 0 (λ z. omega arith))
 
 -- ---- how many
 
-module _ {A : Type 0} where
-  length_if : (b : Bool) (x : A) (l : List A) → length (consIf b x l) ≡ bool_byte b + length l
-  unfolding when
-  length_if true x l = omega arith
-  length_if false x l = omega arith
+abbrev one : Bool → ℕ
+one b = cond b 1 0
 
-  -- one more at the end of a table
-  from_more : (f : A → Bool) (i n : ℕ) (g : ℕ → A) → length (keep f (tabFrom i (suc n) g)) ≡ length (keep f (tabFrom i n g)) + bool_byte (f (g (i + n)))
-  from_more f i zero g = let e : bool_byte (f (g i)) ≡ bool_byte (f (g (i + 0))) = ap (λ k. bool_byte (f (g k))) (omega arith) in omega (arith, length_if (f (g i)) (g i) [])
-  from_more f i (suc n) g =
-      let e : bool_byte (f (g (suc i + n))) ≡ bool_byte (f (g (i + suc n))) = ap (λ k. bool_byte (f (g k))) (omega arith) in
-      omega (arith, length_if (f (g i)) (g i) (keep f (tabFrom (suc i) (suc n) g)), length_if (f (g i)) (g i) (keep f (tabFrom (suc i) n g)), from_more f (suc i) n g)
+length_if : {A : Type 0} (b : Bool) (x : A) (l : List A) → length (consIf b x l) ≡ one b + length l
+unfolding when
+length_if true x l = omega arith
+length_if false x l = omega arith
 
--- r of the sets below s are free, whatever rules and words stand beside the cells
-pub record FreeBelow (cells : List ℕ) (s r : ℕ) : Type 0 where
-  pub count : (n : ℕ) (ws : List ℕ) → r ≡ free_sets (view_sets s n (sets cells ws))
+-- set t is free
+abbrev pub free-at : List ℕ → ℕ → Bool
+free-at cells t = eqb (get_or cells (t * 128) 0) 0
 
-pub free_more : {cells : List ℕ} {s r k : ℕ} → FreeBelow cells s r → k ≡ bool_byte (eqb (get_or cells (s * 128) 0) 0) → FreeBelow cells (s + 1) (r + k)
-free_more {cells} {s} {r} {k} h e = record {
-  count = λ n ws.
-      let g = set_seen n (sets cells ws) in
-      let f : SetPlace → Bool = λ p. eqb p.state FREE in
-      let m : bool_byte (f (g (0 + s))) ≡ k =
-      ap (λ j. bool_byte (f (g j))) (omega arith) ∙ ap bool_byte (free_mark (cell_of cells s 0)) ∙ ap (λ p. bool_byte (eqb (get_or cells p 0) 0)) (omega arith) ∙ sym e in
-      ap₂ ◌+◌ (h.count n ws) (sym m) ∙ sym (from_more f 0 s g) ∙ ap (λ j. free_sets (view_sets j n (sets cells ws))) (sym (add-one s));
-}
+-- of the m sets from i on, whatever rules and words stand beside the cells
+count-seen : (cells ws : List ℕ) (n i m : ℕ) → count_by (free-at cells) (range_with_len i m) ≡ free_sets (tabFrom i m (set_seen n (sets cells ws)))
+count-seen cells ws n i zero = refl
+count-seen cells ws n i (suc m) =
+    let g = set_seen n (sets cells ws) in
+    let e : free-at cells i ≡ eqb (g i).state FREE = ap (λ p. eqb (get_or cells p 0) 0) (omega arith) ∙ sym (free_mark (cell_of cells i 0)) in
+    sum_by-cons (λ k. one (free-at cells k)) i (range_with_len (i + 1) m)
+    ∙ ap₂ (λ b c. one b + c) e (ap (λ j. count_by (free-at cells) (range_with_len j m)) (add-one i) ∙ count-seen cells ws n (suc i) m)
+    ∙ sym (length_if (eqb (g i).state FREE) (g i) (keep (λ p. eqb p.state FREE) (tabFrom (suc i) m g)))
 
-pub free_end : {cells : List ℕ} {s S r : ℕ} → s ≡ S → FreeBelow cells s r → InTables S cells (λ t. free_sets t.sets) r
-free_end {cells} e h = record { exact = λ rs ws q. h.count (rules_in rs) ws ∙ ap (λ j. free_sets (view_sets j (rules_in rs) (sets cells ws))) (e ∙ sym q) }
+pub free_counted : {cells : List ℕ} {S r : ℕ} → r ≡ count_by (free-at cells) (range_with_len 0 S) → InTables S cells (λ t. free_sets t.sets) r
+free_counted {cells} {S} h = record { exact = λ rs ws e. h ∙ count-seen cells ws (rules_in rs) 0 S ∙ ap (λ j. free_sets (view_sets j (rules_in rs) (sets cells ws))) (sym e) }
 
 -- ---- free or in use
 
-either : (n : ℕ) → bool_byte (ltb 0 n) + bool_byte (eqb n FREE) ≡ 1
+either : (n : ℕ) → one (ltb 0 n) + one (eqb n FREE) ≡ 1
 either n = elim (ℕ_discrete n 0) [
-  | yes z ↦ ap₂ (λ a b. bool_byte a + bool_byte b) (le-ltb 0 n (omega arith)) (eq-eqb n 0 z)
-  | no d ↦ ap₂ (λ a b. bool_byte a + bool_byte b) (lt-ltb 0 n (omega arith)) (ne_eqb n 0 d)
+  | yes z ↦ ap₂ (λ a b. one a + one b) (le-ltb 0 n (omega arith)) (eq-eqb n 0 z)
+  | no d ↦ ap₂ (λ a b. one a + one b) (lt-ltb 0 n (omega arith)) (ne_eqb n 0 d)
 ]
 
 used_or_free : (ss : List SetPlace) → length (keep (λ p. ltb 0 p.state) ss) + free_sets ss ≡ length ss

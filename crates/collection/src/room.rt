@@ -9,11 +9,7 @@ pub fn free_sets(cells: &[u8], sets: usize) -> usize
     requires { sets * 128 ≤ length cells.now }
     ensures { InTables sets cells.now (λ t. free_sets t.sets) result }
 {
-    let mut free = 0;
-    for s in 0..sets {
-        free += usize::from(cells[s * table::ROW] == table::FREE);
-    }
-    free
+    (0..sets).filter(|&s| cells[s * table::ROW] == table::FREE).count()
 }
 
 // How many sets are in use.
