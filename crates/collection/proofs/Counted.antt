@@ -2,7 +2,6 @@
 use mathlib.Core.Bool.{Bool, true, false}
 use mathlib.Core.List.{List, [], ◌∷◌}
 use mathlib.Core.Path.{◌≡◌, refl, sym, ap, ap₂, subst, ◌∙◌}
-use mathlib.Core.Logic.{◌≢◌}
 use Prim.Native.Nat.{ℕ, zero, suc, pred, ◌+◌, ◌-◌, ◌*◌, ◌≤◌, ◌<◌}
 use native.Mathlib.Nat.{le_refl}
 use native.Mathlib.Decide.{ℕ_discrete, dec_lt}
@@ -48,21 +47,23 @@ length_if true x l = omega arith
 length_if false x l = omega arith
 
 -- set t is free
-abbrev pub free-at : List ℕ → ℕ → Bool
-free-at cells t = eqb (get_or cells (t * 128) 0) 0
+abbrev pub is_free : List ℕ → ℕ → Bool
+is_free cells t = eqb (get_or cells (t * 128) 0) 0
+
+free_seen : (cells ws : List ℕ) (n t : ℕ) → is_free cells t ≡ eqb (set_seen n (sets cells ws) t).state FREE
+free_seen cells ws n t = ap (λ p. eqb (get_or cells p 0) 0) (omega arith) ∙ sym (free_mark (cell_of cells t 0))
 
 -- of the m sets from i on, whatever rules and words stand beside the cells
-count-seen : (cells ws : List ℕ) (n i m : ℕ) → count_by (free-at cells) (range_with_len i m) ≡ free_sets (tabFrom i m (set_seen n (sets cells ws)))
-count-seen cells ws n i zero = refl
-count-seen cells ws n i (suc m) =
+count_seen : (cells ws : List ℕ) (n i m : ℕ) → count_by (is_free cells) (range_with_len i m) ≡ free_sets (tabFrom i m (set_seen n (sets cells ws)))
+count_seen cells ws n i zero = refl
+count_seen cells ws n i (suc m) =
     let g = set_seen n (sets cells ws) in
-    let e : free-at cells i ≡ eqb (g i).state FREE = ap (λ p. eqb (get_or cells p 0) 0) (omega arith) ∙ sym (free_mark (cell_of cells i 0)) in
-    sum_by-cons (λ k. one (free-at cells k)) i (range_with_len (i + 1) m)
-    ∙ ap₂ (λ b c. one b + c) e (ap (λ j. count_by (free-at cells) (range_with_len j m)) (add-one i) ∙ count-seen cells ws n (suc i) m)
+    sum_by-cons (λ k. one (is_free cells k)) i (range_with_len (i + 1) m)
+    ∙ ap₂ (λ b c. one b + c) (free_seen cells ws n i) (ap (λ j. count_by (is_free cells) (range_with_len j m)) (add-one i) ∙ count_seen cells ws n (suc i) m)
     ∙ sym (length_if (eqb (g i).state FREE) (g i) (keep (λ p. eqb p.state FREE) (tabFrom (suc i) m g)))
 
-pub free_counted : {cells : List ℕ} {S r : ℕ} → r ≡ count_by (free-at cells) (range_with_len 0 S) → InTables S cells (λ t. free_sets t.sets) r
-free_counted {cells} {S} h = record { exact = λ rs ws e. h ∙ count-seen cells ws (rules_in rs) 0 S ∙ ap (λ j. free_sets (view_sets j (rules_in rs) (sets cells ws))) (sym e) }
+pub free_counted : {cells : List ℕ} {S r : ℕ} → r ≡ count_by (is_free cells) (range_with_len 0 S) → InTables S cells (λ t. free_sets t.sets) r
+free_counted {cells} {S} h = record { exact = λ rs ws e. h ∙ count_seen cells ws (rules_in rs) 0 S ∙ ap (λ j. free_sets (view_sets j (rules_in rs) (sets cells ws))) (sym e) }
 
 -- ---- free or in use
 
@@ -104,29 +105,8 @@ module _ (f : ℕ → Bool) (d n : ℕ) where
     first-from zero a e none = let z : i ≡ a = omega arith in subst (λ a. i ≡ firstFrom f d n a) z (first-here f d n refl l here)
     first-from (suc m) a e none = first-from m (a + 1) (omega arith) (λ k q. none k (omega arith)) ∙ sym (first_on f d n refl (omega arith) (none a (le_refl a) (omega arith)))
 
--- set t is free
-pub is_free : List ℕ → ℕ → Bool
-is_free cells t = eqb (cell_of cells t 0) 0
-
 module _ (cells : List ℕ) where
-  first_cell : (t : ℕ) → get_or cells (t * 128) 0 ≡ cell_of cells t 0
-  first_cell t = ap (λ p. get_or cells p 0) (omega arith)
-
-  pub is_free_lem : (t : ℕ) → get_or cells (t * 128) 0 ≡ 0 → is_free cells t ≡ true
-  unfolding is_free
-  is_free_lem t h = eq-eqb _ 0 (sym (first_cell t) ∙ h)
-
-  pub not_free : (t : ℕ) → get_or cells (t * 128) 0 ≢ 0 → is_free cells t ≡ false
-  unfolding is_free
-  not_free t h = ne_eqb _ 0 (λ z. h (first_cell t ∙ z))
-
-  -- a set of a table is free exactly if its mark is 0
-  free_seen : (rs ws : List ℕ) (t : ℕ) → t < sets_in rs → is_free cells t ≡ eqb (set_at (view (mem rs cells ws)).sets t).state FREE
-  unfolding is_free
-  free_seen rs ws t l =
-      sym (free_mark (cell_of cells t 0)) ∙ ap (λ p. eqb p.state FREE) (sym (set_read (sets_in rs) (rules_in rs) (sets cells ws) t l))
-
-  pub lowest-end : {S r : ℕ} → r ≡ firstFrom (is_free cells) 0 S 1 → InTables S cells (λ t. lowest_free t.sets) r
+  lowest-end : {S r : ℕ} → r ≡ firstFrom (is_free cells) 0 S 1 → InTables S cells (λ t. lowest_free t.sets) r
   unfolding firstFrom
   lowest-end {S} h = record {
     exact = λ rs ws e.
@@ -135,14 +115,17 @@ module _ (cells : List ℕ) where
         let n : S - 1 ≡ pred (length v) = omega arith in
         h ∙ ap (λ n. firstIn (is_free cells) 0 (up_from 1 n)) n
         ∙ first_cong (is_free cells) (λ t. eqb (set_at v t).state FREE) 0 (up_from 1 (pred (length v)))
-        (λ t m. let (p, q) = (in_up 1 (pred (length v))).0 m in free_seen rs ws t (omega arith));
+        (λ t m.
+        let (p, q) = (in_up 1 (pred (length v))).0 m in
+        free_seen cells ws (rules_in rs) t ∙ ap (λ p. eqb p.state FREE) (sym (set_read (sets_in rs) (rules_in rs) (sets cells ws) t (omega arith))));
   }
 
   -- what `find` says of the sets from 1 on
   pub lowest-found : {S x : ℕ} (r : Option ℕ)
-      → MatchOption r ((k : ℕ) → 1 ≤ k → k < S → get_or cells (k * 128) 0 ≢ 0) (λ i. (1 ≤ i) × (i < S) × (get_or cells (i * 128) 0 ≡ 0) × ((k : ℕ) → 1 ≤ k → k < i → get_or cells (k * 128) 0 ≢ 0))
+      → MatchOption r ((k : ℕ) → 1 ≤ k → k < S → is_free cells k ≡ false)
+      (λ i. (1 ≤ i) × (i < S) × (is_free cells i ≡ true) × ((k : ℕ) → 1 ≤ k → k < i → is_free cells k ≡ false))
       → x ≡ unwrap_or r 0 → InTables S cells (λ t. lowest_free t.sets) x
-  lowest-found {S} None none e = lowest-end (e ∙ none-from (is_free cells) 0 S S 1 (omega arith) (λ k p q. not_free k (none k p q)))
+  lowest-found {S} None none e = lowest-end (e ∙ none-from (is_free cells) 0 S S 1 (omega arith) none)
   lowest-found {S} (Some i) (p, q, here, none) e =
       let z : 1 + (i - 1) ≡ i = omega arith in
-      lowest-end (e ∙ first-from (is_free cells) 0 S i q (is_free_lem i here) (i - 1) 1 z (λ k a b. not_free k (none k a b)))
+      lowest-end (e ∙ first-from (is_free cells) 0 S i q here (i - 1) 1 z none)

@@ -9,7 +9,9 @@ pub fn free_sets(cells: &[u8], sets: usize) -> usize
     requires { sets * 128 ≤ length cells.now }
     ensures { InTables sets cells.now (λ t. free_sets t.sets) result }
 {
-    (0..sets).filter(|&s| cells[s * table::ROW] == table::FREE).count()
+    (0..sets)
+        .filter(|&s| cells[s * table::ROW] == table::FREE)
+        .count()
 }
 
 // How many sets are in use.
@@ -25,5 +27,7 @@ pub fn lowest_free(cells: &[u8], sets: usize) -> usize
     requires { sets * 128 ≤ length cells.now }
     ensures { InTables sets cells.now (λ t. lowest_free t.sets) result }
 {
-    (1..sets).find(|&s| cells[s * table::ROW] == table::FREE).unwrap_or(0)
+    (1..sets)
+        .find(|&s| cells[s * table::ROW] == table::FREE)
+        .unwrap_or(0)
 }
