@@ -2,7 +2,7 @@
 use mathlib.Core.Path.{◌≡◌, refl, sym, ap, subst, ◌∙◌}
 use mathlib.Core.Logic.{◌↔◌, ◌⊎◌, inl, inr, ⊎_elim}
 use mathlib.Core.List.{List, Memᴰ as In}
-use Prim.Native.Nat.{ℕ, ◌+◌, ◌*◌, ◌/◌, ◌%◌, ◌≤◌, ◌<◌}
+use Prim.Native.Nat.{ℕ, ◌+◌, ◌*◌, ◌/◌, ◌%◌, ◌<◌}
 use native.Mathlib.Decide.{ℕ_discrete, dec_lt}
 use native.Mathlib.Omega.{arith}
 use lib.Dec.{T, eqb}
@@ -132,7 +132,7 @@ module _ (rs c met : List ℕ) (formed : FormedRules rs) (u : UnderWay rs c met)
     pub met_new : {seen : List ℕ} → seen ≡ put met 0 b → MetAfter rs seen i
     met_new {seen} f t = subst (λ b. has seen 0 b ≡ 1) is (ap (λ s. has s 0 b) f ∙ has-put-same met 0 b fits)
 
--- ---- a round's turn, at item j, and its end
+-- ---- a round's turn, at item j
 
 module _ {rs a p c met : List ℕ} (g : Grew rs a p c met) where
   pub met_turn : {d seen : List ℕ} {from j : ℕ} → MetBelow rs a met from → Least c 0 16 from j → Grew rs c met d seen → MetAfter rs seen j → MetBelow rs a seen (j + 1)
@@ -143,9 +143,6 @@ module _ {rs a p c met : List ℕ} (g : Grew rs a p c met) where
       | no d ↦ absurd (omega (arith, least.none i (omega arith) (omega arith), g.kept i o))
     ]
   ]
-
-  pub met_end : (from : ℕ) → MetBelow rs a met from → ((j : ℕ) → from ≤ j → j < 1024 → has c 0 j ≡ 0) → MetBelow rs a met 1024
-  met_end from below none i l o = elim (dec_lt i from) [ yes q ↦ below i q o | no q ↦ absurd (omega (arith, none i (omega arith) l, g.kept i o)) ]
 
 -- a round that added nothing
 pub none-added : {rs c met d seen : List ℕ} → Grew rs c met d seen → MetBelow rs c seen 1024 → items c 0 ≡ items d 0 → MetBelow rs d seen 1024

@@ -33,9 +33,6 @@ module _ {S : ℕ} {cells : List ℕ} (w : Rows S cells) {marks queue : List ℕ
   next_led : i < n → Led cells (get_or queue i 0)
   next_led l = z.reached (get_or queue i 0) (z.queued.marked i l)
 
-  pub next-set : i < n → get_or queue i 0 < 256
-  next-set l = omega (arith, led_inside w (next_led l), w.few)
-
   pub next_row : i < n → Row cells (get_or queue i 0)
   next_row l = w.row (get_or queue i 0) (led_inside w (next_led l))
 
