@@ -26,10 +26,8 @@ fn unexpand_all(cells: &mut [u8], words: &mut [u64], n: usize, left: usize)
     requires n_in_bounds { (n * 128 ≤ length cells.old) × (n * 18 ≤ length words.old) }
     ensures { sets cells.new words.new ≡ unexpand_all n left (sets cells.old words.old) }
 {
-    let mut s: usize = 0;
-    while s < n {
+    for s in 0..n {
         unexpand_if(cells, words, left, s);
-        s += 1;
     }
 }
 

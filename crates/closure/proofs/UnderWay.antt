@@ -1,9 +1,8 @@
 -- A closure under way: how an item makes it grow, and what a round of them has done. Assumes nothing.
 use mathlib.Core.Path.{◌≡◌, refl, sym, ap, subst, ◌∙◌}
 use mathlib.Core.Logic.{◌↔◌, ◌⊎◌, inl, inr, ⊎_elim}
-use mathlib.Core.Bool.{false}
 use mathlib.Core.List.{List, Memᴰ as In}
-use Prim.Native.Nat.{ℕ, ◌+◌, ◌*◌, ◌/◌, ◌%◌, ◌≤◌, ◌<◌}
+use Prim.Native.Nat.{ℕ, ◌+◌, ◌*◌, ◌/◌, ◌%◌, ◌<◌}
 use native.Mathlib.Decide.{ℕ_discrete, dec_lt}
 use native.Mathlib.Omega.{arith}
 use lib.Dec.{T, eqb}
@@ -53,14 +52,6 @@ grew-more g h = record {
 pub met_room : {rs c met : List ℕ} → UnderWay rs c met → (b : ℕ) → T (nonterminal b) → 0 + b / 64 < length met
 met_room u b t = let (p, q) = (is-nonterminal b).0 t in omega (arith, u.pair)
 
--- ---- an item with no non-terminal after its dot, or one that was met before
-
-pub met_none : {rs c met : List ℕ} (i : ℕ) → UnderWay rs c met → nonterminal (after_at (view_rules rs) i) ≡ false → Grew rs c met c met × MetAfter rs met i
-met_none i u e = (grew_none u, λ t. absurd (subst T e t))
-
-pub met_again : {rs c met : List ℕ} (i : ℕ) → UnderWay rs c met → has met 0 (after_at (view_rules rs) i) ≡ 1 → Grew rs c met c met × MetAfter rs met i
-met_again i u h = (grew_none u, λ t. h)
-
 -- ---- the rules of a non-terminal that stands after the dot of item i
 
 module _ (rs c met : List ℕ) (formed : FormedRules rs) (u : UnderWay rs c met) where
@@ -93,20 +84,16 @@ module _ (rs c met : List ℕ) (formed : FormedRules rs) (u : UnderWay rs c met)
         (λ o. ⊎_elim (λ q. absurd (omega (arith, u.within i l h, q))) (λ (r, p, (t, e)). absurd (omega arith)) ((rules-bits i).0 o))
         (has-cases with-rules 0 i)
 
-  module _ (i : ℕ) (inside : i < n * 8) (there : has c 0 i ≡ 1) (stands : T (nonterminal (after_at vs i))) where
-    b : ℕ
-    b = after_at vs i
-
+  module _ (i : ℕ) (inside : i < n * 8) (there : has c 0 i ≡ 1) (b : ℕ) (is : b ≡ after_at vs i) (stands : T (nonterminal b)) where
     fits : 0 + b / 64 < length met
-    unfolding b
-    fits = met_room u (after_at vs i) stands
+    fits = met_room u b stands
 
     next-after : Next (grammar vs) (i / 8) (i % 8) b
-    unfolding b after_at
-    next-after = after_next vs (item_at i) (after_at vs i) (let (p, q) = (is-nonterminal (after_at vs i)).0 stands in omega arith) refl
+    unfolding after_at
+    next-after = after_next vs (item_at i) b (let (p, q) = (is-nonterminal b).0 stands in omega arith) (sym is)
 
     from-rule : (r : ℕ) → T (current_rule_of vs b r) → Closure (grammar vs) (Listed (kernel_seen n c 0)) r 0
-    unfolding b current_rule_of
+    unfolding current_rule_of
     from-rule r t =
         let (cur, e) = (and_both (eqb (rule_at vs r).state CURRENT) (eqb (rule_at vs r).left b)).0 t in
         added (kernel ((bit-item n c 0 i inside).0 there)) next-after stands cur ((eqb_iff (rule_at vs r).left b).0 e)
@@ -133,22 +120,19 @@ module _ (rs c met : List ℕ) (formed : FormedRules rs) (u : UnderWay rs c met)
     met-grows : (x : ℕ) → has met 0 x ≡ 1 → has (put met 0 b) 0 x ≡ 1
     met-grows x h = elim (ℕ_discrete x b) [ yes e ↦ ap (has (put met 0 b) 0) e ∙ has-put-same met 0 b fits | no d ↦ has-put-other met 0 b fits x d ∙ h ]
 
-    grew_new : Grew rs c met (with-rules b) (put met 0 b)
-    grew_new = record {
+    pub grew_new : {d seen : List ℕ} → d ≡ up_to n (put_rule vs b) c → seen ≡ put met 0 b → Grew rs c met d seen
+    unfolding with-rules
+    grew_new {d} {seen} e f = subst (λ d. Grew rs c met d seen) (sym e) (subst (λ s. Grew rs c met (with-rules b) s) (sym f) record {
       under_way = record { long = rules-length b; pair = length-put met 0 b ∙ u.pair; within = rules-within b; full = rules-full };
       kept = λ j o. (rules-bits b j).1 (inl o);
       met_kept = met-grows;
       sound = rules-sound;
-    }
+    })
 
-    pub met-new : (d seen : List ℕ) → d ≡ up_to n (put_rule vs (after_at vs i)) c → seen ≡ put met 0 (after_at vs i) → Grew rs c met d seen × MetAfter rs seen i
-    unfolding b with-rules
-    met-new d seen e f = (
-      subst (λ d. Grew rs c met d seen) (sym e) (subst (λ s. Grew rs c met (with-rules b) s) (sym f) grew_new),
-      λ t. ap (λ s. has s 0 b) f ∙ has-put-same met 0 b fits,
-    )
+    pub met_new : {seen : List ℕ} → seen ≡ put met 0 b → MetAfter rs seen i
+    met_new {seen} f t = subst (λ b. has seen 0 b ≡ 1) is (ap (λ s. has s 0 b) f ∙ has-put-same met 0 b fits)
 
--- ---- a round's turn, at item j, and its end
+-- ---- a round's turn, at item j
 
 module _ {rs a p c met : List ℕ} (g : Grew rs a p c met) where
   pub met_turn : {d seen : List ℕ} {from j : ℕ} → MetBelow rs a met from → Least c 0 16 from j → Grew rs c met d seen → MetAfter rs seen j → MetBelow rs a seen (j + 1)
@@ -159,9 +143,6 @@ module _ {rs a p c met : List ℕ} (g : Grew rs a p c met) where
       | no d ↦ absurd (omega (arith, least.none i (omega arith) (omega arith), g.kept i o))
     ]
   ]
-
-  pub met_end : (from : ℕ) → MetBelow rs a met from → ((j : ℕ) → from ≤ j → j < 1024 → has c 0 j ≡ 0) → MetBelow rs a met 1024
-  met_end from below none i l o = elim (dec_lt i from) [ yes q ↦ below i q o | no q ↦ absurd (omega (arith, none i (omega arith) l, g.kept i o)) ]
 
 -- a round that added nothing
 pub none-added : {rs c met d seen : List ℕ} → Grew rs c met d seen → MetBelow rs c seen 1024 → items c 0 ≡ items d 0 → MetBelow rs d seen 1024

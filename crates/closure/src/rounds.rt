@@ -2,7 +2,7 @@
 //
 // 001 looks for one item and one rule at a time. Here an item with its dot before B brings all the current rules of B at once,
 // and `met` notes B, so that no later item asks for them again.
-ghost use Rattle.std.specs.Prelude.{◌≡◌, ◌*◌, ◌<◌, length};
+ghost use Rattle.std.specs.Prelude.{◌≡◌, ◌*◌, ◌<◌};
 ghost use Rattle.laws.specs.Loops.{up_to};
 ghost use Rattle.kernels.specs.Kernel.{has};
 ghost use Rattle.theory.specs.Expansion.{closure};
@@ -34,7 +34,7 @@ pub fn close(rules: &[u8], kernel: [u64; 16]) -> [u64; 16]
 }
 
 // One round: "for each item with the dot before non-terminal B, every current rule of B with dot 0".
-fn round(rules: &[u8], closure: &mut [u64], met: &mut [u64])
+fn round(rules: &[u8], closure: &mut [u64; 16], met: &mut [u64; 2])
     requires { FormedRules rules.now × UnderWay rules.now closure.old met.old }
     ensures grew { Grew rules.now closure.old met.old closure.new met.new }
     ensures all { MetBelow rules.now closure.old met.new 1024 }
@@ -50,16 +50,13 @@ fn round(rules: &[u8], closure: &mut [u64], met: &mut [u64])
 }
 
 // Adds the rules of the non-terminal after the item's dot, if there is one that was not met before.
-fn meet(rules: &[u8], closure: &mut [u64], met: &mut [u64], item: usize)
+fn meet(rules: &[u8], closure: &mut [u64; 16], met: &mut [u64; 2], item: usize)
     requires { FormedRules rules.now × UnderWay rules.now closure.old met.old × (item < rules_in rules.now * 8) × (has closure.old 0 item ≡ 1) }
     ensures grew { Grew rules.now closure.old met.old closure.new met.new }
     ensures met { MetAfter rules.now met.new item }
 {
     let b = after(rules, item);
-    if !b.is_nonterminal() {
-        return;
-    }
-    if kernels::has(met, 0, b.0 as usize) {
+    if !b.is_nonterminal() || kernels::has(met, 0, b.0 as usize) {
         return;
     }
     kernels::put(met, 0, b.0 as usize);
@@ -67,21 +64,18 @@ fn meet(rules: &[u8], closure: &mut [u64], met: &mut [u64], item: usize)
 }
 
 // Adds every current rule of b with dot 0.
-fn add_rules(rules: &[u8], closure: &mut [u64], b: Symbol)
-    requires { FormedRules rules.now × (length closure.old ≡ 16) }
+fn add_rules(rules: &[u8], closure: &mut [u64; 16], b: Symbol)
+    requires { FormedRules rules.now }
     ensures { closure.new ≡ up_to (rules_in rules.now) (put_rule (view_rules rules.now) b.0) closure.old }
 {
-    let n = table::rules_in(rules);
-    let mut r = 0;
-    while r < n {
+    for r in 0..table::rules_in(rules) {
         add_rule(rules, closure, b, r);
-        r += 1;
     }
 }
 
 // Adds rule r, if it is a current rule of b.
-fn add_rule(rules: &[u8], closure: &mut [u64], b: Symbol, r: usize)
-    requires { FormedRules rules.now × (length closure.old ≡ 16) × (r < rules_in rules.now) }
+fn add_rule(rules: &[u8], closure: &mut [u64; 16], b: Symbol, r: usize)
+    requires { FormedRules rules.now × (r < rules_in rules.now) }
     ensures { closure.new ≡ put_rule (view_rules rules.now) b.0 r closure.old }
 {
     if is_current_rule_of(rules, b, r) {

@@ -1,5 +1,5 @@
 // What EXPAND asks of a closure. Each answer is one walk over the items that are there, and its step puts in what one item brings.
-ghost use Rattle.std.specs.Prelude.{◌≡◌, ◌*◌, ◌≤◌, ◌<◌, length};
+ghost use Rattle.std.specs.Prelude.{◌≡◌, ◌*◌, ◌≤◌, ◌<◌};
 ghost use Rattle.theory.specs.Expansion.{moved};
 ghost use Rattle.table.specs.Layout.{rules_in, view_rules};
 ghost use Rattle.table.specs.Laid.{FormedRules, Within, HoldsKernel};
@@ -26,8 +26,8 @@ pub fn symbols_after(rules: &[u8], closure: [u64; 16]) -> [u64; 2]
 }
 
 // Puts in the symbol after the item's dot, if there is one.
-fn put_after(rules: &[u8], item: usize, symbols: &mut [u64])
-    requires { FormedRules rules.now × (item < rules_in rules.now * 8) × (length symbols.old ≡ 2) }
+fn put_after(rules: &[u8], item: usize, symbols: &mut [u64; 2])
+    requires { FormedRules rules.now × (item < rules_in rules.now * 8) }
     ensures { symbols.new ≡ put_after (view_rules rules.now) item symbols.old }
 {
     let x = after(rules, item).0;
@@ -53,8 +53,8 @@ pub fn moved(rules: &[u8], closure: [u64; 16], x: usize) -> [u64; 16]
 }
 
 // Puts in the item with its dot moved over x, if x stands after it.
-fn put_moved(rules: &[u8], item: usize, x: usize, kernel: &mut [u64])
-    requires { FormedRules rules.now × (item < rules_in rules.now * 8) × (1 ≤ x) × (length kernel.old ≡ 16) }
+fn put_moved(rules: &[u8], item: usize, x: usize, kernel: &mut [u64; 16])
+    requires { FormedRules rules.now × (item < rules_in rules.now * 8) × (1 ≤ x) }
     ensures { kernel.new ≡ put_moved (view_rules rules.now) x item kernel.old }
 {
     if after(rules, item).0 as usize == x {
@@ -74,33 +74,35 @@ pub fn completed_items(rules: &[u8], closure: [u64; 16]) -> Completed
     requires { FormedRules rules.now × Within (rules_in rules.now) closure 0 }
     ensures { HoldsCompleted (view_rules rules.now) (items_in rules.now closure) result }
 {
-    let mut reductions = [0u64; 2];
-    let mut accepts = false;
+    let mut completed = Completed {
+        reductions: [0; 2],
+        accepts: false,
+    };
     let mut from = 0;
     loop {
         let Found::At(item) = kernels::next(&closure, 0, kernels::KERNEL_WORDS, from) else {
-            return Completed {
-                reductions,
-                accepts,
-            };
+            return completed;
         };
-        accepts = put_completed(rules, item, &mut reductions, accepts);
+        completed.put(rules, item);
         from = item + 1;
     }
 }
 
-// Puts in the item's rule, if the item is completed. A rule of START sets the mark instead, which is handed back.
-fn put_completed(rules: &[u8], item: usize, reductions: &mut [u64], accepts: bool) -> bool
-    requires { FormedRules rules.now × (item < rules_in rules.now * 8) × (length reductions.old ≡ 2) }
-    ensures put { reductions.new ≡ put_reduction (view_rules rules.now) item reductions.old }
-    ensures marked { result ≡ accepts_too (view_rules rules.now) item accepts }
-{
-    if !ends(rules, item) {
-        return accepts;
+impl Completed {
+    // Puts in the item's rule, if the item is completed. A rule of START sets the mark instead.
+    fn put(&mut self, rules: &[u8], item: usize)
+        requires { FormedRules rules.now × (item < rules_in rules.now * 8) }
+        ensures reductions { self.new.reductions ≡ put_reduction (view_rules rules.now) item self.old.reductions }
+        ensures accepts { self.new.accepts ≡ accepts_too (view_rules rules.now) item self.old.accepts }
+    {
+        if !ends(rules, item) {
+            return;
+        }
+        let r = item / kernels::DOTS;
+        if left(rules, r).is_start() {
+            self.accepts = true;
+        } else {
+            kernels::put(&mut self.reductions, 0, r);
+        }
     }
-    if left(rules, item / kernels::DOTS).is_start() {
-        return true;
-    }
-    kernels::put(reductions, 0, item / kernels::DOTS);
-    accepts
 }

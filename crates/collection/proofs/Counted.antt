@@ -1,15 +1,20 @@
 -- How many sets are free, and which is the lowest, from the sets' marks. Assumes nothing.
 use mathlib.Core.Bool.{Bool, true, false}
 use mathlib.Core.List.{List, [], ◌∷◌}
-use mathlib.Core.Path.{◌≡◌, refl, sym, ap, ap₂, ◌∙◌}
-use mathlib.Core.Logic.{◌≢◌}
+use mathlib.Core.Path.{◌≡◌, refl, sym, ap, ap₂, subst, ◌∙◌}
 use Prim.Native.Nat.{ℕ, zero, suc, pred, ◌+◌, ◌-◌, ◌*◌, ◌≤◌, ◌<◌}
-use native.Mathlib.Decide.{ℕ_discrete}
+use native.Mathlib.Nat.{le_refl}
+use native.Mathlib.Decide.{ℕ_discrete, dec_lt}
 use native.Mathlib.Numerals.{add-one}
 use native.Mathlib.Omega.{arith}
 use borrow.Author.Tests.{eq-eqb, ne_eqb, lt-ltb, le-ltb}
 use lib.Dec.{eqb, ltb}
 use lib.ListN.{length, get_or}
+use Rattle.std.proofs.Common.{Option, Some, None, cond, count_by}
+use Rattle.std.specs.List.{range_with_len}
+use Rattle.std.proofs.lemmas.List.Sums.{sum_by-cons}
+use Rattle.std.specs.Prelude.{MatchOption}
+use Rattle.std.specs.Option.{unwrap_or}
 use Rattle.laws.specs.Choice.{when}
 use Rattle.laws.specs.Loops.{tabFrom}
 use Rattle.laws.specs.Lists.{consIf, keep, firstIn, up_from}
@@ -19,15 +24,12 @@ use Rattle.theory.specs.Table.{FREE, SetPlace, set_at, in_use}
 use Rattle.theory.specs.Expansion.{free_sets, lowest_free}
 use Rattle.table.specs.Layout.{sets, mem, sets_in, rules_in, state_of, set_seen, view, view_sets}
 use Rattle.table.proofs.Read.{set_read}
-use Rattle.laws.proofs.Loops.{firstFrom}
+use Rattle.laws.proofs.Loops.{firstFrom, first-here, first_on, first-end}
 use Rattle.laws.proofs.Chosen.{first_cong}
 use Rattle.collection.specs.Reach.{cell_of}
 use Rattle.collection.specs.Room.{InTables}
 
 -- ---- a mark
-
-one : Bool → ℕ
-one b = when b 1 0
 
 free_mark : (m : ℕ) → eqb (state_of m) FREE ≡ eqb m 0
 free_mark zero = refl
@@ -36,44 +38,36 @@ free_mark (suc (suc m)) = sym (ne_eqb (suc (suc m)) 0 (λ z. omega arith))
 
 -- ---- how many
 
-module _ {A : Type 0} where
-  length_if : (b : Bool) (x : A) (l : List A) → length (consIf b x l) ≡ one b + length l
-  unfolding one when
-  length_if true x l = omega arith
-  length_if false x l = omega arith
+abbrev one : Bool → ℕ
+one b = cond b 1 0
 
-  -- one more at the end of a table
-  from_more : (f : A → Bool) (i n : ℕ) (g : ℕ → A) → length (keep f (tabFrom i (suc n) g)) ≡ length (keep f (tabFrom i n g)) + one (f (g (i + n)))
-  from_more f i zero g = let e : one (f (g i)) ≡ one (f (g (i + 0))) = ap (λ k. one (f (g k))) (omega arith) in omega (arith, length_if (f (g i)) (g i) [])
-  from_more f i (suc n) g =
-      let e : one (f (g (suc i + n))) ≡ one (f (g (i + suc n))) = ap (λ k. one (f (g k))) (omega arith) in
-      omega (arith, length_if (f (g i)) (g i) (keep f (tabFrom (suc i) (suc n) g)), length_if (f (g i)) (g i) (keep f (tabFrom (suc i) n g)), from_more f (suc i) n g)
+length_if : {A : Type 0} (b : Bool) (x : A) (l : List A) → length (consIf b x l) ≡ one b + length l
+unfolding when
+length_if true x l = omega arith
+length_if false x l = omega arith
 
--- r of the sets below s are free, whatever rules and words stand beside the cells
-pub record FreeBelow (cells : List ℕ) (s r : ℕ) : Type 0 where
-  pub count : (n : ℕ) (ws : List ℕ) → r ≡ free_sets (view_sets s n (sets cells ws))
+-- set t is free
+abbrev pub is_free : List ℕ → ℕ → Bool
+is_free cells t = eqb (get_or cells (t * 128) 0) 0
 
-pub free_none : {cells : List ℕ} → FreeBelow cells 0 0
-free_none = record { count = λ n ws. refl }
+free_seen : (cells ws : List ℕ) (n t : ℕ) → is_free cells t ≡ eqb (set_seen n (sets cells ws) t).state FREE
+free_seen cells ws n t = ap (λ p. eqb (get_or cells p 0) 0) (omega arith) ∙ sym (free_mark (cell_of cells t 0))
 
-pub free_more : {cells : List ℕ} {s r k : ℕ} → FreeBelow cells s r → k ≡ when (eqb (get_or cells (s * 128) 0) 0) 1 0 → FreeBelow cells (s + 1) (r + k)
-unfolding one
-free_more {cells} {s} {r} {k} h e = record {
-  count = λ n ws.
-      let g = set_seen n (sets cells ws) in
-      let f : SetPlace → Bool = λ p. eqb p.state FREE in
-      let m : one (f (g (0 + s))) ≡ k =
-      ap (λ j. one (f (g j))) (omega arith) ∙ ap one (free_mark (cell_of cells s 0)) ∙ ap (λ p. one (eqb (get_or cells p 0) 0)) (omega arith) ∙ sym e in
-      ap₂ ◌+◌ (h.count n ws) (sym m) ∙ sym (from_more f 0 s g) ∙ ap (λ j. free_sets (view_sets j n (sets cells ws))) (sym (add-one s));
-}
+-- of the m sets from i on, whatever rules and words stand beside the cells
+count_seen : (cells ws : List ℕ) (n i m : ℕ) → count_by (is_free cells) (range_with_len i m) ≡ free_sets (tabFrom i m (set_seen n (sets cells ws)))
+count_seen cells ws n i zero = refl
+count_seen cells ws n i (suc m) =
+    let g = set_seen n (sets cells ws) in
+    sum_by-cons (λ k. one (is_free cells k)) i (range_with_len (i + 1) m)
+    ∙ ap₂ (λ b c. one b + c) (free_seen cells ws n i) (ap (λ j. count_by (is_free cells) (range_with_len j m)) (add-one i) ∙ count_seen cells ws n (suc i) m)
+    ∙ sym (length_if (eqb (g i).state FREE) (g i) (keep (λ p. eqb p.state FREE) (tabFrom (suc i) m g)))
 
-pub free_end : {cells : List ℕ} {s S r : ℕ} → s ≡ S → FreeBelow cells s r → InTables S cells (λ t. free_sets t.sets) r
-free_end {cells} e h = record { exact = λ rs ws q. h.count (rules_in rs) ws ∙ ap (λ j. free_sets (view_sets j (rules_in rs) (sets cells ws))) (e ∙ sym q) }
+pub free_counted : {cells : List ℕ} {S r : ℕ} → r ≡ count_by (is_free cells) (range_with_len 0 S) → InTables S cells (λ t. free_sets t.sets) r
+free_counted {cells} {S} h = record { exact = λ rs ws e. h ∙ count_seen cells ws (rules_in rs) 0 S ∙ ap (λ j. free_sets (view_sets j (rules_in rs) (sets cells ws))) (sym e) }
 
 -- ---- free or in use
 
 either : (n : ℕ) → one (ltb 0 n) + one (eqb n FREE) ≡ 1
-unfolding one when
 either n = elim (ℕ_discrete n 0) [
   | yes z ↦ ap₂ (λ a b. one a + one b) (le-ltb 0 n (omega arith)) (eq-eqb n 0 z)
   | no d ↦ ap₂ (λ a b. one a + one b) (lt-ltb 0 n (omega arith)) (ne_eqb n 0 d)
@@ -96,29 +90,23 @@ rest-used {cells} {S} {r} h = record {
 
 -- ---- the lowest
 
--- set t is free
-pub is_free : List ℕ → ℕ → Bool
-is_free cells t = eqb (cell_of cells t 0) 0
+module _ (f : ℕ → Bool) (d n : ℕ) where
+  -- no number from a on passes the test
+  none-from : (m a : ℕ) → n ≤ a + m → ((k : ℕ) → a ≤ k → k < n → f k ≡ false) → d ≡ firstFrom f d n a
+  none-from zero a l none = first-end f d n refl (omega arith)
+  none-from (suc m) a l none = elim (dec_lt a n) [
+    | yes p ↦ none-from m (a + 1) (omega arith) (λ k q. none k (omega arith)) ∙ sym (first_on f d n refl p (none a (le_refl a) p))
+    | no p ↦ first-end f d n refl (omega arith)
+  ]
+
+  -- i is the first that does
+  module _ (i : ℕ) (l : i < n) (here : f i ≡ true) where
+    first-from : (m a : ℕ) → a + m ≡ i → ((k : ℕ) → a ≤ k → k < i → f k ≡ false) → i ≡ firstFrom f d n a
+    first-from zero a e none = let z : i ≡ a = omega arith in subst (λ a. i ≡ firstFrom f d n a) z (first-here f d n refl l here)
+    first-from (suc m) a e none = first-from m (a + 1) (omega arith) (λ k q. none k (omega arith)) ∙ sym (first_on f d n refl (omega arith) (none a (le_refl a) (omega arith)))
 
 module _ (cells : List ℕ) where
-  first_cell : (t : ℕ) → get_or cells (t * 128) 0 ≡ cell_of cells t 0
-  first_cell t = ap (λ p. get_or cells p 0) (omega arith)
-
-  pub is_free_lem : (t : ℕ) → get_or cells (t * 128) 0 ≡ 0 → is_free cells t ≡ true
-  unfolding is_free
-  is_free_lem t h = eq-eqb _ 0 (sym (first_cell t) ∙ h)
-
-  pub not_free : (t : ℕ) → get_or cells (t * 128) 0 ≢ 0 → is_free cells t ≡ false
-  unfolding is_free
-  not_free t h = ne_eqb _ 0 (λ z. h (first_cell t ∙ z))
-
-  -- a set of a table is free exactly if its mark is 0
-  free_seen : (rs ws : List ℕ) (t : ℕ) → t < sets_in rs → is_free cells t ≡ eqb (set_at (view (mem rs cells ws)).sets t).state FREE
-  unfolding is_free
-  free_seen rs ws t l =
-      sym (free_mark (cell_of cells t 0)) ∙ ap (λ p. eqb p.state FREE) (sym (set_read (sets_in rs) (rules_in rs) (sets cells ws) t l))
-
-  pub lowest-end : {S r : ℕ} → r ≡ firstFrom (is_free cells) 0 S 1 → InTables S cells (λ t. lowest_free t.sets) r
+  lowest-end : {S r : ℕ} → r ≡ firstFrom (is_free cells) 0 S 1 → InTables S cells (λ t. lowest_free t.sets) r
   unfolding firstFrom
   lowest-end {S} h = record {
     exact = λ rs ws e.
@@ -127,5 +115,17 @@ module _ (cells : List ℕ) where
         let n : S - 1 ≡ pred (length v) = omega arith in
         h ∙ ap (λ n. firstIn (is_free cells) 0 (up_from 1 n)) n
         ∙ first_cong (is_free cells) (λ t. eqb (set_at v t).state FREE) 0 (up_from 1 (pred (length v)))
-        (λ t m. let (p, q) = (in_up 1 (pred (length v))).0 m in free_seen rs ws t (omega arith));
+        (λ t m.
+        let (p, q) = (in_up 1 (pred (length v))).0 m in
+        free_seen cells ws (rules_in rs) t ∙ ap (λ p. eqb p.state FREE) (sym (set_read (sets_in rs) (rules_in rs) (sets cells ws) t (omega arith))));
   }
+
+  -- what `find` says of the sets from 1 on
+  pub lowest-found : {S x : ℕ} (r : Option ℕ)
+      → MatchOption r ((k : ℕ) → 1 ≤ k → k < S → is_free cells k ≡ false)
+      (λ i. (1 ≤ i) × (i < S) × (is_free cells i ≡ true) × ((k : ℕ) → 1 ≤ k → k < i → is_free cells k ≡ false))
+      → x ≡ unwrap_or r 0 → InTables S cells (λ t. lowest_free t.sets) x
+  lowest-found {S} None none e = lowest-end (e ∙ none-from (is_free cells) 0 S S 1 (omega arith) none)
+  lowest-found {S} (Some i) (p, q, here, none) e =
+      let z : 1 + (i - 1) ≡ i = omega arith in
+      lowest-end (e ∙ first-from (is_free cells) 0 S i q here (i - 1) 1 z none)

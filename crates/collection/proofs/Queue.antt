@@ -1,33 +1,27 @@
 -- Sets that are marked and queued: none, one, and many one after the other. Assumes nothing.
-use mathlib.Core.Path.{◌≡◌, refl, sym, ap, ◌∙◌, subst}
+use mathlib.Core.Path.{◌≡◌, sym, ap, ◌∙◌, subst}
 use mathlib.Core.Logic.{inl, inr, ⊎_elim}
-use mathlib.Core.Bool.{Bool, true, false}
+use mathlib.Core.Bool.{Bool, false}
 use mathlib.Core.List.{List}
-use Prim.Native.Nat.{ℕ, ◌+◌, ◌*◌, ◌/◌, ◌<◌}
-use native.Mathlib.Nat.{le_refl, le_trans, lt_of_lt_of_le}
+use Prim.Native.Nat.{ℕ, ◌+◌, ◌-◌, ◌*◌, ◌/◌, ◌<◌}
+use native.Mathlib.Nat.{le_trans, lt_of_lt_of_le}
 use native.Mathlib.Decide.{ℕ_discrete}
 use native.Mathlib.Omega.{arith}
-use borrow.Author.Tests.{eqb-true, eqb-false}
-use lib.ListN.{length, get_or, set, length-set}
+use borrow.Author.Tests.{eqb-false}
+use lib.ListN.{length, get_or, set, length-set, take, drop}
 use lib.Seq.{get_or-set_same, get_or-set_other}
+use Rattle.std.proofs.lemmas.List.{get_or-take, get_or-drop, length-take}
 use Rattle.kernels.specs.Kernel.{has, holds, put}
 use Rattle.kernels.specs.Walk.{how_many}
 use Rattle.kernels.proofs.Walk.{many_le, many-put}
 use Rattle.kernels.proofs.Kernel.{has_lt, has-put-same, has-put-other}
-use Rattle.collection.specs.Reach.{cell_of, Row, Queued, Adds}
+use Rattle.collection.specs.Reach.{cell_of, Queued, Adds}
 
 -- what the test of a mark says
-pub is-marked : {b : Bool} (marks : List ℕ) (t : ℕ) → b ≡ holds marks 0 t → b ≡ true → has marks 0 t ≡ 1
-is-marked marks t e h = eqb-true (has marks 0 t) 1 (sym e ∙ h)
-
 pub not_marked : {b : Bool} (marks : List ℕ) (t : ℕ) → b ≡ holds marks 0 t → b ≡ false → has marks 0 t ≡ 0
 not_marked marks t e h = let d = eqb-false (has marks 0 t) 1 (sym e ∙ h) in omega (arith, has_lt marks 0 t)
 
--- one that is marked
-pub adds_known : {t : ℕ} {marks queue : List ℕ} {n : ℕ} → Queued marks queue n → has marks 0 t ≡ 1 → Adds 1 (λ k. t) marks queue n marks queue n
-adds_known {n = n} q h = record { queued = q; more = le_refl n; kept = λ j l. refl; there = λ j l. h; only = λ s m. inl m }
-
--- one that is not
+-- one that is not marked yet
 module _ {t : ℕ} {marks queue : List ℕ} {n : ℕ} (q : Queued marks queue n) (h : has marks 0 t ≡ 0) (low : t < 256) (there : 0 + t / 64 < length marks) where
   many_more : how_many 256 (has (put marks 0 t) 0) ≡ how_many 256 (has marks 0) + 1
   many_more = many-put (has (put marks 0 t) 0) (has marks 0) t 256 low h (has-put-same marks 0 t there) (has-put-other marks 0 t there)
@@ -67,18 +61,6 @@ module _ {t : ℕ} {marks queue : List ℕ} {n : ℕ} (q : Queued marks queue n)
   pub adds-new : {marks' : List ℕ} → marks' ≡ put marks 0 t → Adds 1 (λ k. t) marks queue n marks' (set queue n t) (n + 1)
   adds-new e = subst (λ m. Adds 1 (λ k. t) marks queue n m (set queue n t) (n + 1)) (sym e) (put-adds (lt_of_lt_of_le new-fits q.room))
 
--- 0 alone, which is marked
-pub adds-zeros : (k : ℕ) (f : ℕ → ℕ) {marks queue : List ℕ} {n : ℕ} → Queued marks queue n → ((j : ℕ) → j < k → f j ≡ 0) → Adds k f marks queue n marks queue n
-adds-zeros k f {marks} {n = n} q z =
-    record { queued = q; more = le_refl n; kept = λ j l. refl; there = λ j l. ap (has marks 0) (z j l) ∙ q.start; only = λ s m. inl m }
-
--- the targets of a set that is not expanded
-pub adds-bare : (cells : List ℕ) (s : ℕ) {marks queue : List ℕ} {n : ℕ} → Row cells s → get_or cells (s * 128) 0 < 2 → Queued marks queue n
-    → Adds 127 (λ k. cell_of cells s (k + 1)) marks queue n marks queue n
-adds-bare cells s r l q =
-    let z : s * 128 + 0 ≡ s * 128 = omega arith in
-    adds-zeros 127 (λ k. cell_of cells s (k + 1)) q (λ j h. r.bare (subst (λ p. get_or cells p 0 < 2) (sym z) l) (j + 1) (omega arith) (omega arith))
-
 -- marks stay
 pub adds_keep : {k : ℕ} {f : ℕ → ℕ} {a x b y : List ℕ} {l m : ℕ} → Queued a x l → Adds k f a x l b y m → (s : ℕ) → has a 0 s ≡ 1 → has b 0 s ≡ 1
 adds_keep {b = b} q p s h =
@@ -86,14 +68,18 @@ adds_keep {b = b} q p s h =
     subst (λ s. has b 0 s ≡ 1) (p.kept j i ∙ e) (p.queued.marked j (omega (arith, p.more)))
 
 -- many, and one more behind them
-pub adds-next : {k : ℕ} (f : ℕ → ℕ) {a x b y c z : List ℕ} {l m n : ℕ} → Adds k f a x l b y m → Adds 1 (λ j. f k) b y m c z n → Adds (k + 1) f a x l c z n
-adds-next {k} f {c = c} p q = record {
+pub adds-next : {k : ℕ} (f : ℕ → ℕ) {a x b y c z : List ℕ} {l m n t : ℕ} → Adds k f a x l b y m → t ≡ f k → Adds 1 (λ j. t) b y m c z n → Adds (k + 1) f a x l c z n
+adds-next {k} f {c = c} p e q = record {
   queued = q.queued;
   more = le_trans p.more q.more;
   kept = λ j h. q.kept j (omega (arith, p.more)) ∙ p.kept j h;
-  there = λ j h. elim (ℕ_discrete j k) [ yes e ↦ subst (λ j. has c 0 (f j) ≡ 1) (sym e) (q.there 0 (omega arith)) | no d ↦ adds_keep p.queued q (f j) (p.there j (omega arith)) ];
-  only = λ s h. ⊎_elim (λ e. ⊎_elim inl (λ (j, i, e). inr (j, omega arith, e)) (p.only s e)) (λ (j, i, e). inr (k, omega arith, e)) (q.only s h);
+  there = λ j h. elim (ℕ_discrete j k) [ yes d ↦ ap (has c 0) (ap f d ∙ sym e) ∙ q.there 0 (omega arith) | no d ↦ adds_keep p.queued q (f j) (p.there j (omega arith)) ];
+  only = λ s h. ⊎_elim (λ d. ⊎_elim inl (λ (j, i, d). inr (j, omega arith, d)) (p.only s d)) (λ (j, i, d). inr (k, omega arith, sym e ∙ d)) (q.only s h);
 }
 
-pub adds-end : {k n : ℕ} (f : ℕ → ℕ) {a x b y : List ℕ} {l m : ℕ} → k ≡ n → Adds k f a x l b y m → Adds n f a x l b y m
-adds-end f {a} {x} {b} {y} {l} {m} e p = subst (λ k. Adds k f a x l b y m) e p
+-- the targets of set s, as the code cuts them out of its row
+pub target-at : (cells : List ℕ) (s k : ℕ) → k < length (take (s * 128 + 128 - (s * 128 + 1)) (drop (s * 128 + 1) cells))
+    → get_or (take (s * 128 + 128 - (s * 128 + 1)) (drop (s * 128 + 1) cells)) k 0 ≡ cell_of cells s (k + 1)
+target-at cells s k l =
+    let n = s * 128 + 128 - (s * 128 + 1) in
+    get_or-take n (drop (s * 128 + 1) cells) k 0 (omega (arith, length-take n (drop (s * 128 + 1) cells))) ∙ get_or-drop (s * 128 + 1) cells k 0 ∙ ap (λ p. get_or cells p 0) (omega arith)

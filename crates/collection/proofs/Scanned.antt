@@ -33,13 +33,10 @@ module _ {S : ℕ} {cells : List ℕ} (w : Rows S cells) {marks queue : List ℕ
   next_led : i < n → Led cells (get_or queue i 0)
   next_led l = z.reached (get_or queue i 0) (z.queued.marked i l)
 
-  pub next-set : i < n → get_or queue i 0 < 256
-  next-set l = omega (arith, led_inside w (next_led l), w.few)
-
   pub next_row : i < n → Row cells (get_or queue i 0)
   next_row l = w.row (get_or queue i 0) (led_inside w (next_led l))
 
-  pub scan_next : i < n → {marks' queue' : List ℕ} {n' : ℕ} → Adds 127 (λ k. cell_of cells (get_or queue i 0) (k + 1)) marks queue n marks' queue' n'
+  scan_next : i < n → {marks' queue' : List ℕ} {n' : ℕ} → Adds 127 (λ k. cell_of cells (get_or queue i 0) (k + 1)) marks queue n marks' queue' n'
       → Scanned cells marks' queue' n' (i + 1)
   scan_next l {marks'} {queue'} {n'} a = record {
     queued = a.queued;
@@ -52,6 +49,11 @@ module _ {S : ℕ} {cells : List ℕ} (w : Rows S cells) {marks queue : List ℕ
           (adds_keep z.queued a (cell_of cells (get_or queue j 0) (k + 1)) (z.done j (omega arith) k m))
     ];
   }
+
+  -- the same as the code comes to it: the set is taken, and then scanned
+  pub take_next : i < n → {s : ℕ} → s ≡ get_or queue i 0 → {m q : List ℕ} {k : ℕ} → (m ≡ marks) × (q ≡ queue) × (k ≡ n)
+      → {marks' queue' : List ℕ} {n' i' : ℕ} → i' ≡ i + 1 → Adds 127 (λ k. cell_of cells s (k + 1)) m q k marks' queue' n' → Scanned cells marks' queue' n' i'
+  take_next l e (a, b, c) {marks'} {queue'} {n'} d h = subst (Scanned cells marks' queue' n') (sym d) (scan_next l (rw (sym e, sym a, sym b, sym c) h))
 
   -- every set of the queue is scanned, so every target of a marked set is marked
   led_marked : n ≤ i → {s : ℕ} → Led cells s → has marks 0 s ≡ 1

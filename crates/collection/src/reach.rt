@@ -3,53 +3,79 @@
 // The marks are a bit for each set. A set is marked when it is met, and queued at the same time; so it is queued once, and the
 // work is done when every set of the queue has been scanned. Set 0 is marked from the start: the 0 of a row, which says that there
 // is no target, is never new.
-ghost use Rattle.std.specs.Prelude.{◌+◌};
+ghost use Rattle.std.specs.Prelude.{◌≡◌, ◌+◌, ◌≤◌, ◌<◌, get_or, MatchOption};
 ghost use Rattle.collection.specs.Reach.{cell_of, Row, Rows, Marks, Queued, Adds};
+
+// The sets that are reached so far: a mark for each, and the first n of the queue, of which so many were taken out to be scanned.
+#[derive(Drop)]
+struct Reached {
+    marks: [u64; 4],
+    queue: [u8; 256],
+    n: usize,
+    taken: usize,
+}
 
 // A mark for each set that is reached; `sets` is the pool's size.
 pub fn reach(cells: &[u8], sets: usize) -> [u64; 4]
     requires { Rows sets cells.now }
     ensures { Marks sets cells.now result }
 {
-    let mut marks: [u64; 4] = [1, 0, 0, 0];
-    let mut queue: [u8; 256] = [0; 256];
-    let mut n: usize = 1;
-    let mut i: usize = 0;
-    while i < n {
-        n = scan(cells, queue[i] as usize, &mut marks, &mut queue, n);
-        i += 1;
+    let mut reached = Reached {
+        marks: [1, 0, 0, 0],
+        queue: [0; 256],
+        n: 1,
+        taken: 0,
+    };
+    while let Some(s) = reached.next() {
+        reached.scan(cells, s as usize);
     }
-    marks
+    reached.marks
 }
 
-// Marks and queues the targets of set s, behind the n sets of the queue; answers how many the queue has then.
-fn scan(cells: &[u8], s: usize, marks: &mut [u64; 4], queue: &mut [u8; 256], n: usize) -> usize
-    requires row { Row cells.now s }
-    requires queued { Queued marks.old queue.old n }
-    ensures { Adds 127 (λ k. cell_of cells.now s (k + 1))
-        marks.old queue.old n marks.new queue.new result }
-{
-    if cells[s * table::ROW] < table::EXPANDED {
-        return n; // not expanded: there are none
+impl Reached {
+    // The next set of the queue.
+    fn next(&mut self) -> Option<u8>
+        requires { self.old.n ≤ 256 }
+        ensures same { (self.new.marks ≡ self.old.marks) × (self.new.queue ≡ self.old.queue) × (self.new.n ≡ self.old.n) }
+        ensures next { MatchOption result
+            (self.old.n ≤ self.old.taken)
+            (λ s. (self.old.taken < self.old.n) × (s ≡ get_or self.old.queue self.old.taken 0) × (self.new.taken ≡ self.old.taken + 1)) }
+    {
+        let s = *self.queue[..self.n].get(self.taken)?;
+        self.taken += 1;
+        Some(s)
     }
-    let mut n = n;
-    let mut x: usize = 0;
-    while x < 127 {
-        x += 1;
-        n = meet(cells[s * table::ROW + x], marks, queue, n);
-    }
-    n
-}
 
-// Marks and queues t, unless it is marked.
-fn meet(t: u8, marks: &mut [u64; 4], queue: &mut [u8; 256], n: usize) -> usize
-    requires { Queued marks.old queue.old n }
-    ensures { Adds 1 (λ k. t) marks.old queue.old n marks.new queue.new result }
-{
-    if kernels::has(marks, 0, t as usize) {
-        return n;
+    // Marks and queues the targets of set s.
+    fn scan(&mut self, cells: &[u8], s: usize)
+        requires row { Row cells.now s }
+        requires queued { Queued self.old.marks self.old.queue self.old.n }
+        ensures adds { Adds 127 (λ k. cell_of cells.now s (k + 1))
+            self.old.marks self.old.queue self.old.n
+            self.new.marks self.new.queue self.new.n }
+        ensures taken { self.new.taken ≡ self.old.taken }
+    {
+        if cells[s * table::ROW] < table::EXPANDED {
+            return; // not expanded: there are none
+        }
+        for &t in &cells[s * table::ROW + 1..s * table::ROW + table::ROW] {
+            self.meet(t);
+        }
     }
-    kernels::put(marks, 0, t as usize);
-    queue[n] = t;
-    n + 1
+
+    // Marks and queues t, unless it is marked.
+    fn meet(&mut self, t: u8)
+        requires { Queued self.old.marks self.old.queue self.old.n }
+        ensures adds { Adds 1 (λ k. t)
+            self.old.marks self.old.queue self.old.n
+            self.new.marks self.new.queue self.new.n }
+        ensures taken { self.new.taken ≡ self.old.taken }
+    {
+        if kernels::has(&self.marks, 0, t as usize) {
+            return;
+        }
+        kernels::put(&mut self.marks, 0, t as usize);
+        self.queue[self.n] = t;
+        self.n += 1;
+    }
 }

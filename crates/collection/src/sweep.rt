@@ -11,10 +11,8 @@ pub fn free_unmarked(cells: &mut [u8], words: &mut [u64], marks: &[u64; 4], sets
     ensures { setsOf cells.new words.new
         ≡ up_to sets (free_unmarked marks.now) (setsOf cells.old words.old) }
 {
-    let mut s = 0;
-    while s < sets {
+    for s in 0..sets {
         free_unless_marked(cells, words, marks, s);
-        s += 1;
     }
 }
 
@@ -37,10 +35,8 @@ pub fn free_withdrawn(rules: &mut [u8], n: usize)
     requires { 2 + n * 10 ≤ length rules.old }
     ensures { rules.new ≡ up_to n free_withdrawn rules.old }
 {
-    let mut r = 0;
-    while r < n {
+    for r in 0..n {
         free_if_withdrawn(rules, r);
-        r += 1;
     }
 }
 

@@ -1,6 +1,5 @@
 -- `changes::make` meets its contract: zeros, then the two sizes and the mark. Assumes nothing.
 use native.Mathlib.Omega.{arith}
-use lib.ListN.{length-set}
 use Rattle.theory.proofs.FormNew.{pools_in_range_lem}
 use Rattle.changes.proofs.Made.{new-made}
 use Rattle.changes.proofs.make.Goals as goal
@@ -10,9 +9,6 @@ overflow_cast-rules c = omega (arith, (pools_in_range_lem _ _).0 c.requires.in_r
 
 pub overflow_cast-rules-2 : goal.overflow_cast-rules-2
 overflow_cast-rules-2 c = omega (arith, (pools_in_range_lem _ _).0 c.requires.in_range)
-
-pub bounds-rules-1 : goal.bounds-rules-1
-bounds-rules-1 c = simp length-set (omega arith)
 
 pub bounds-cells-0 : goal.bounds-cells-0
 bounds-cells-0 c = omega (arith, (pools_in_range_lem _ _).0 c.requires.in_range)

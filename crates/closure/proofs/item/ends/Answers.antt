@@ -1,14 +1,10 @@
 -- `closure::item::ends` meets its contract. The length is the number that is read. Assumes nothing.
 use mathlib.Core.Path.{ap}
-use Prim.Native.Nat.{◌+◌, ◌*◌, ◌/◌, ◌%◌}
-use native.Mathlib.Omega.{arith}
+use Prim.Native.Nat.{◌%◌}
 use lib.Dec.{eqb}
 use Rattle.closure.specs.Item.{ends_at}
 use Rattle.closure.proofs.Rules.{end_read}
 use Rattle.closure.proofs.item.ends.Goals as goal
-
-pub overflow_cast-result : goal.overflow_cast-result
-overflow_cast-result c = omega (arith, c.type_inv.rules (4 + c.args.item / 8 * 10))
 
 pub returns : goal.returns
 unfolding ends_at

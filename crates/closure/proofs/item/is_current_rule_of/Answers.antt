@@ -7,14 +7,15 @@ use Rattle.closure.specs.Item.{current_rule_of}
 use Rattle.closure.proofs.Rules.{state_read}
 use Rattle.closure.proofs.item.is_current_rule_of.Goals as goal
 
-pub returns-then-rules-r-ne-CURRENT : goal.returns-then-rules-r-ne-CURRENT
+pub returns-then-rules-r-eq-CURRENT : goal.returns-then-rules-r-eq-CURRENT
 unfolding current_rule_of
-returns-then-rules-r-ne-CURRENT c =
+returns-then-rules-r-eq-CURRENT c =
     let state = state_read c.args.rules.now c.requires.0 c.args.r c.requires.1 in
-    and_off _ (ap (λ x. eqb x 1) (sym state) ∙ ne_eqb _ _ c.if-rules-r-ne-CURRENT.true)
+    and_on (ap (λ x. eqb x 1) (sym state) ∙ eq-eqb _ _ c.if-rules-r-eq-CURRENT.true) (ap (λ x. eqb x c.args.b.0) c.left.ensures)
 
-pub returns : goal.returns
+pub returns-else-rules-r-eq-CURRENT : goal.returns-else-rules-r-eq-CURRENT
 unfolding current_rule_of
-returns c =
+returns-else-rules-r-eq-CURRENT c =
     let state = state_read c.args.rules.now c.requires.0 c.args.r c.requires.1 in
-    and_on (ap (λ x. eqb x 1) (sym state) ∙ eq-eqb _ _ c.if-rules-r-ne-CURRENT.false) (ap (λ x. eqb x c.args.b.0) c.left.ensures)
+    let no = ne_eqb _ _ c.if-rules-r-eq-CURRENT.false in
+    no ∙ and_off _ (ap (λ x. eqb x 1) (sym state) ∙ no)

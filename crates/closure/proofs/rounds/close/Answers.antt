@@ -15,21 +15,6 @@ loop-items-init c =
     let long : length c.args.kernel ≡ 16 = search rules in
     (grew_none (nothing_met long refl c.requires.1 (has-zero 2)), c.count-items.ensures)
 
-pub slice_bounds-round-end : goal.slice_bounds-round-end
-slice_bounds-round-end c = sym c.loop-items.invariant.0.under_way.long
-
-pub slice_bounds-round-end-in-loop-items : goal.slice_bounds-round-end-in-loop-items
-slice_bounds-round-end-in-loop-items c = sym c.loop-items.invariant.0.under_way.pair
-
-pub round-requires : goal.round-requires
-round-requires c = (c.requires.0, c.loop-items.invariant.0.under_way)
-
-pub slice_bounds-count-end-in-loop-items : goal.slice_bounds-count-end-in-loop-items
-slice_bounds-count-end-in-loop-items c = sym c.round.ensures.grew.under_way.long
-
-pub count-more-requires : goal.count-more-requires
-count-more-requires c = omega (arith, c.round.ensures.grew.under_way.long)
-
 pub returns-then-more-items : goal.returns-then-more-items
 returns-then-more-items c =
     is-closure c.args.rules.now _ _ _ _ c.requires.0 (grew-more c.loop-items.invariant.0 c.round.ensures.grew)

@@ -1,10 +1,7 @@
 -- `closure::walks::completed_items` meets its contract. The invariant: words and mark are those of the items below `from`. Assumes nothing.
-use mathlib.Core.Path.{refl, sym}
-use native.Mathlib.Omega.{arith}
-use Rattle.table.specs.Layout.{rules_in}
-use Rattle.kernels.proofs.Puts.{has-zero, length-put_if}
-use Rattle.kernels.proofs.KernelWalk.{walk_start, walk_turn, walk_end, walk_length}
-use Rattle.closure.proofs.Turn.{found, item-inside}
+use mathlib.Core.Path.{refl}
+use Rattle.kernels.proofs.Puts.{has-zero}
+use Rattle.kernels.proofs.KernelWalk.{walk_start, walk_turn, walk_end}
 use Rattle.closure.proofs.Walk.{holds-completed}
 use Rattle.closure.proofs.walks.completed_items.Goals as goal
 
@@ -15,22 +12,6 @@ pub returns-in_default : goal.returns-in_default
 returns-in_default c =
     holds-completed c.args.rules.now c.args.closure c.requires.0 c.requires.1 _ (has-zero 2) refl _ (walk_end c.loop-item.invariant.0 c.in_default.is c.next.ensures) (walk_end c.loop-item.invariant.1 c.in_default.is c.next.ensures)
 
-pub slice_bounds-put_completed-end : goal.slice_bounds-put_completed-end
-slice_bounds-put_completed-end c = sym (walk_length c.loop-item.invariant.0 (λ i ws. length-put_if _ _ _))
-
-pub put_completed-accepts-requires : goal.put_completed-accepts-requires
-put_completed-accepts-requires c =
-    let inside = item-inside c.args.closure c.loop-item.from (rules_in c.args.rules.now) c.requires.1 c.in-At.is c.next.ensures in
-    (c.requires.0, inside, walk_length c.loop-item.invariant.0 (λ i ws. length-put_if _ _ _))
-
-pub overflow_add-from : goal.overflow_add-from
-overflow_add-from c = omega (arith, (found c.args.closure c.loop-item.from c.in-At.is c.next.ensures).inside)
-
-pub loop-item-smaller : goal.loop-item-smaller
-loop-item-smaller c =
-    let least = found c.args.closure c.loop-item.from c.in-At.is c.next.ensures in
-    omega (arith, least.inside, least.above)
-
 pub loop-item-preserved : goal.loop-item-preserved
 loop-item-preserved c =
-    (walk_turn c.loop-item.invariant.0 c.in-At.is c.next.ensures c.put_completed-accepts.ensures.put, walk_turn c.loop-item.invariant.1 c.in-At.is c.next.ensures c.put_completed-accepts.ensures.marked)
+    (walk_turn c.loop-item.invariant.0 c.in-At.is c.next.ensures c.put.ensures.reductions, walk_turn c.loop-item.invariant.1 c.in-At.is c.next.ensures c.put.ensures.accepts)

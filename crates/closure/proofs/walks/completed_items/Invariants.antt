@@ -6,7 +6,8 @@ use Rattle.kernels.proofs.KernelWalk.{Walked}
 use Rattle.closure.proofs.walks.completed_items.Given as goal
 
 abbrev pub invariant-loop-item : goal.invariant-loop-item
-invariant-loop-item l = Walked (put_reduction (view_rules l.rules)) l.closure l.from l.initial.reductions l.reductions × Walked (accepts_too (view_rules l.rules)) l.closure l.from l.initial.accepts l.accepts
+invariant-loop-item l =
+    Walked (put_reduction (view_rules l.rules)) l.closure l.from l.initial.completed.reductions l.completed.reductions × Walked (accepts_too (view_rules l.rules)) l.closure l.from l.initial.completed.accepts l.completed.accepts
 
 abbrev pub decreases-loop-item : goal.decreases-loop-item
 decreases-loop-item l = 1024 - l.from

@@ -12,7 +12,7 @@ use Rattle.closure.proofs.walks.put_after.Goals as goal
 pub put-requires : goal.put-requires
 put-requires c =
     let (p, small) = after-inside c.args.rules.now c.requires.0 c.args.item (omega (arith, c.after-x.ensures, c.if-x-ne0.true)) in
-    omega (arith, c.after-x.ensures, c.requires.2)
+    omega (arith, c.after-x.ensures)
 
 pub returns-then-x-ne0 : goal.returns-then-x-ne0
 returns-then-x-ne0 c =

@@ -10,7 +10,7 @@ use Rattle.closure.proofs.walks.put_moved.Goals as goal
 pub put-requires : goal.put-requires
 put-requires c =
     let (before-end, p) = after-inside c.args.rules.now c.requires.0 c.args.item (omega (arith, c.after.ensures, c.if-after-x.true, c.requires.2)) in
-    omega (arith, c.requires.3, c.requires.0.laid.few_rules)
+    omega (arith, c.requires.0.laid.few_rules)
 
 pub returns-then-after-x : goal.returns-then-after-x
 returns-then-after-x c =

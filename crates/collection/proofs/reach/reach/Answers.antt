@@ -1,27 +1,27 @@
--- `collection::reach::reach` meets its contract. The invariant: what is marked is reached, and the first i sets of the queue are
+-- `collection::reach::reach` meets its contract. The invariant: what is marked is reached, and the sets that were taken are
 -- scanned; a set is queued once, so the queue never holds more than 256. Assumes nothing.
-use mathlib.Core.Path.{refl}
+use mathlib.Core.Path.{refl, sym, subst, ◌∙◌}
 use native.Mathlib.Omega.{arith}
-use Rattle.collection.proofs.Scanned.{scan_begin, next_row, scan_next, scan_end, queue_short}
+use Rattle.collection.specs.Reach.{Row, Marks}
+use Rattle.collection.proofs.Scanned.{scan_begin, next_row, take_next, scan_end, queue_short}
 use Rattle.collection.proofs.reach.reach.Goals as goal
 
-pub loop-i-init : goal.loop-i-init
-loop-i-init c = scan_begin (omega arith) refl
+pub loop-s-init : goal.loop-s-init
+loop-s-init c = scan_begin (omega arith) refl
 
-pub bounds-queue-i : goal.bounds-queue-i
-bounds-queue-i c = omega (arith, queue_short c.loop-i.invariant)
+pub next-requires : goal.next-requires
+next-requires c = queue_short c.loop-s.invariant
 
--- UNMATCHED Need-overflow-cast-scan
--- cast-scan c = omega (arith, next-set c.requires c.loop-i.invariant c.loop-i-test.true)
+pub scan-requires-clause-row : goal.scan-requires-clause-row
+scan-requires-clause-row c =
+    let (l, e, d) = c.in-Some.ensures.next in subst (Row c.args.cells.now) (sym e) (next_row c.requires c.loop-s.invariant l)
 
-pub scan-n-requires : goal.scan-n-requires
-scan-n-requires c = record { row = next_row c.requires c.loop-i.invariant c.loop-i-test.true; queued = c.loop-i.invariant.queued }
+pub loop-s-smaller : goal.loop-s-smaller
+loop-s-smaller c = omega (arith, queue_short c.loop-s.invariant, c.in-Some.ensures.next.0, c.in-Some.ensures.next.2, c.scan.ensures.taken)
 
-pub loop-i-smaller : goal.loop-i-smaller
-loop-i-smaller c = omega (arith, queue_short c.loop-i.invariant)
-
-pub loop-i-preserved : goal.loop-i-preserved
-loop-i-preserved c = scan_next c.requires c.loop-i.invariant c.loop-i-test.true c.scan-n.ensures
+pub loop-s-preserved : goal.loop-s-preserved
+loop-s-preserved c =
+    let (l, e, d) = c.in-Some.ensures.next in take_next c.requires c.loop-s.invariant l e c.in-Some.ensures.same (c.scan.ensures.taken ∙ d) c.scan.ensures.adds
 
 pub returns : goal.returns
-returns c = scan_end c.requires c.loop-i.invariant c.loop-i-test.false
+returns c = subst (Marks _ _) (sym c.in_default.ensures.same.0) (scan_end c.requires c.loop-s.invariant c.in_default.ensures.next)

@@ -1,17 +1,15 @@
--- `collection::room::lowest_free` meets its contract. The invariant: the answer is that from set s on. Assumes nothing.
-use mathlib.Core.Path.{refl}
-use Rattle.laws.proofs.Loops.{first-here, first_on, first-end}
-use Rattle.collection.proofs.Counted.{is_free_lem, not_free, lowest-end}
+-- `collection::room::lowest_free` meets its contract. Assumes nothing.
+use Rattle.std.proofs.Common.{◌≡◌, true, false, arith, rules, tests}
+use Rattle.std.proofs.lemmas.Iterator.{first_from_Range}
+use Rattle.std.proofs.lemmas.List.{get_or_read}
+use Rattle.collection.proofs.Counted.{is_free, lowest-found}
 use Rattle.collection.proofs.room.lowest_free.Goals as goal
 
-pub loop-s-init : goal.loop-s-init
-loop-s-init c = refl
-
-pub returns-then-cells-s-eq-FREE : goal.returns-then-cells-s-eq-FREE
-returns-then-cells-s-eq-FREE c = lowest-end _ (first-here _ _ _ c.loop-s.invariant c.loop-s-test.true (is_free_lem _ _ c.if-cells-s-eq-FREE.true))
-
-pub loop-s-preserved : goal.loop-s-preserved
-loop-s-preserved c = first_on _ _ _ c.loop-s.invariant c.loop-s-test.true (not_free _ _ c.if-cells-s-eq-FREE.false)
-
 pub returns : goal.returns
-returns c = lowest-end _ (first-end _ _ _ c.loop-s.invariant c.loop-s-test.false)
+returns c =
+    let free = is_free c.args.cells.now in
+    lowest-found _ _
+    (first_from_Range _ _ _ _ (λ i. free i ≡ true) (λ i. free i ≡ false) c.find.ensures.ran
+    (λ x q k. grind (arith, tests, get_or_read))
+    (λ x q k. (search rules, grind (arith, tests, get_or_read))))
+    c.unwrap_or.ensures
