@@ -98,9 +98,5 @@ fn put_row(cells: &mut [u8], at: usize, row: &[u8; 128])
     requires { at + 128 ≤ length cells.old }
     ensures { cells.new ≡ write_words cells.old at (λ k. get_or row.now k 0) 128 }
 {
-    let mut k = 0;
-    while k < table::ROW {
-        cells[at + k] = row[k];
-        k += 1;
-    }
+    cells[at..at + table::ROW].copy_from_slice(row);
 }

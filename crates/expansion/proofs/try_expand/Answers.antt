@@ -15,10 +15,6 @@ symbols_after-symbols-requires c = (formed-rules c.requires.formed, c.closure_of
 pub missing-missing-requires : goal.missing-missing-requires
 missing-missing-requires c = record { countable = closed_countable _ _ _ (record { is = c.requires; held = c.closure_of-closure.ensures }); holds_symbols = c.symbols_after-symbols.ensures }
 
-pub free_sets-free-requires : goal.free_sets-free-requires
-free_sets-free-requires c =
-    omega (arith, c.sets_in.ensures, c.requires.formed.laid.sized.cells)
-
 pub returns-then-missing-free : goal.returns-then-missing-free
 returns-then-missing-free c =
     tried_not _ _ _ (record { is = c.requires; held = c.closure_of-closure.ensures }) c.missing-missing.ensures c.sets_in.ensures c.free_sets-free.ensures
