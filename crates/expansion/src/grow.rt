@@ -45,7 +45,11 @@ pub fn grow(
 fn mark(accepts: bool) -> u8
     ensures { result ≡ when accepts 3 2 }
 {
-    if accepts { 3 } else { 2 }
+    if accepts {
+        table::ACCEPTING
+    } else {
+        table::EXPANDED
+    }
 }
 
 // The sets to which the symbols lead, as a row: "For each symbol X after a dot in the closure, ascending".
