@@ -64,11 +64,11 @@ module _ (m : Mem) (s : ℕ) (c : List ℕ) (𝓒 : Closed m s c) where
             (moved-some (view_rules m.rules) (set_at (view m).sets s).kernel (ruled f.form) (ranged f.form s));
       }
 
-  pub closed_countable : Countable m.rules m.sets.words c
-  closed_countable =
-      let f = 𝓒.is.formed in
-      record {
-        rules = formed-rules f;
-        kernels = record { words = f.laid.sized.words; each = λ t l. (f.laid.each_set t l).items };
-        within = 𝓒.held.within;
-      }
+pub closed_countable : (m : Mem) (s : ℕ) (c : List ℕ) → Unexpanded m s → Within (rules_in m.rules) c 0 → Countable m.rules m.sets.words c
+closed_countable m s c 𝓤 within =
+    let f = 𝓤.formed in
+    record {
+      rules = formed-rules f;
+      kernels = record { words = f.laid.sized.words; each = λ t l. (f.laid.each_set t l).items };
+      within = within;
+    }

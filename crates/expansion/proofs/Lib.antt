@@ -3,6 +3,7 @@ pub mod Rest
 pub mod Missing
 pub mod Lead
 pub mod Copied
+pub mod Put
 pub mod Closed
 pub mod RowTransitions
 pub mod Filled

@@ -1,16 +1,15 @@
 -- Counting the kernels that no set has: one kernel, a walk over the symbols, and the model's count. Assumes nothing.
 use mathlib.Core.Bool.{Bool, true, false}
 use mathlib.Core.List.{List}
-use mathlib.Core.Path.{◌≡◌, refl, sym, ap, ◌∙◌}
-use mathlib.Core.Logic.{◌≢◌}
+use mathlib.Core.Path.{◌≡◌, refl, ap, ◌∙◌}
 use Prim.Native.Nat.{ℕ, ◌+◌, ◌≤◌, zero-le}
 use native.Mathlib.Omega.{arith}
-use borrow.Author.Tests.{eq-eqb, ne_eqb}
+use Rattle.std.specs.Int.{from_bool}
 use lib.Dec.{eqb}
 use lib.ListN.{length}
 use Rattle.laws.specs.Choice.{when}
 use Rattle.laws.specs.Lists.{consIf, keep}
-use Rattle.laws.proofs.Choice.{when_yes, when_no, when-cases}
+use Rattle.laws.proofs.Choice.{when-cases}
 use Rattle.laws.proofs.Chosen.{keep_cong}
 use Rattle.kernels.specs.Kernel.{Next}
 use Rattle.std.specs.Prelude.{Option, Some, None}
@@ -27,6 +26,11 @@ use Rattle.expansion.proofs.Rest.{rest, least, rest-next, rest-none, rest_all, r
 
 -- ---- one kernel
 
+number-when : (b : Bool) → from_bool b ≡ when b 1 0
+unfolding when
+number-when true = refl
+number-when false = refl
+
 module _ (rs ws c : List ℕ) (y : ℕ) {key : List ℕ} (is : HoldsKernel (rules_in rs) key 0 (kernel_on rs c y)) where
   pub countable_sought : Countable rs ws c → length key ≡ 16 → Sought rs ws key
   countable_sought 𝓒 long = record {
@@ -42,11 +46,9 @@ module _ (rs ws c : List ℕ) (y : ℕ) {key : List ℕ} (is : HoldsKernel (rule
     kernel-found : o ≡ kernel_at (sets_in rs) (rules_in rs) ws (kernel_on rs c y)
     kernel-found = found ∙ ap (kernel_at (sets_in rs) (rules_in rs) ws) is.seen
 
-    pub is-missing : o ≡ 0 → 1 ≡ one_if_missing rs ws c y
-    is-missing z = when_yes 0 (eq-eqb _ 0 (sym kernel-found ∙ z)) refl
-
-    pub is-there : o ≢ 0 → 0 ≡ one_if_missing rs ws c y
-    is-there d = when_no 1 (ne_eqb _ 0 (λ e. d (kernel-found ∙ e))) refl
+    -- the answer of the test, as a number
+    pub one-missing : {r : ℕ} → r ≡ from_bool (eqb o 0) → r ≡ one_if_missing rs ws c y
+    one-missing e = e ∙ number-when (eqb o 0) ∙ ap (λ o. when (eqb o 0) 1 0) kernel-found
 
 -- ---- all of them
 

@@ -45,7 +45,11 @@ pub fn grow(
 fn mark(accepts: bool) -> u8
     ensures { result ≡ when accepts 3 2 }
 {
-    if accepts { 3 } else { 2 }
+    if accepts {
+        table::ACCEPTING
+    } else {
+        table::EXPANDED
+    }
 }
 
 // The sets to which the symbols lead, as a row: "For each symbol X after a dot in the closure, ascending".
@@ -98,9 +102,5 @@ fn put_row(cells: &mut [u8], at: usize, row: &[u8; 128])
     requires { at + 128 ≤ length cells.old }
     ensures { cells.new ≡ write_words cells.old at (λ k. get_or row.now k 0) 128 }
 {
-    let mut k = 0;
-    while k < table::ROW {
-        cells[at + k] = row[k];
-        k += 1;
-    }
+    cells[at..at + table::ROW].copy_from_slice(row);
 }

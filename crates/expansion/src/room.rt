@@ -29,9 +29,5 @@ fn one_if_missing(rules: &[u8], words: &[u64], closure: [u64; 16], x: usize) -> 
     ensures { result ≡ one_if_missing rules.now words.now closure x }
 {
     let kernel = closure::moved(rules, closure, x);
-    if lookup::find(rules, words, &kernel) == 0 {
-        1
-    } else {
-        0
-    }
+    usize::from(lookup::find(rules, words, &kernel) == 0)
 }

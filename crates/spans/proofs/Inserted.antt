@@ -109,8 +109,8 @@ module _ {a : List ℕ} {count key f : ℕ} (ascending : Ascending a count) (bel
           ]
         ]
 
-    pub insert-new : Inserts a c count key (count + 1)
-    insert-new = record {
+    insert_here : Inserts a c count key (count + 1)
+    insert_here = record {
       long = length-set b f key ∙ opened.long;
       more = omega arith;
       ascending = ascends;
@@ -129,3 +129,6 @@ module _ {a : List ℕ} {count key f : ℕ} (ascending : Ascending a count) (bel
         ]
       ];
     }
+
+    pub insert-new : {n : ℕ} → n ≡ count → Inserts a c count key (n + 1)
+    insert-new e = subst (λ n. Inserts a c count key (n + 1)) (sym e) insert_here

@@ -1,28 +1,25 @@
 // The place of a span, searched among those of its end.
-ghost use Rattle.std.specs.Prelude.{◌≡◌, ◌<◌};
+ghost use Rattle.std.specs.Prelude.{◌≡◌, ◌<◌, MatchOption};
 ghost use Rattle.spans.specs.Area.{place_of};
 ghost use Rattle.spans.specs.Gathered.{OrderedAt};
 
-use super::area::{first, key_of, number};
+use super::area::{Area, key_of};
 
-// The place of the span of x from i to j, or the number of spans where it has none.
-pub fn find(area: &[u64], count: usize, x: usize, i: usize, j: usize) -> usize
-    requires ordered_at { OrderedAt j area.now count }
-    requires x_bound { (x < 256) × (i < 256) }
-    ensures { result ≡ place_of area.now count x i j }
-{
-    let key = key_of(x, i, j);
-    let next = first(area, j + 1);
-    let mut e = first(area, j);
-    while e < next {
-        let here = number(area, e);
-        if here == key {
-            return e;
+impl Area<'_> {
+    // The place of the span of x from i to j, if it has one.
+    pub fn find(&self, x: usize, i: usize, j: usize) -> Option<usize>
+        requires ordered_at { OrderedAt j self.now.numbers.now self.now.count }
+        requires x_bound { (x < 256) × (i < 256) }
+        ensures { MatchOption result
+            (place_of self.now.numbers.now self.now.count x i j ≡ self.now.count)
+            (λ e. (e < self.now.count) × (e ≡ place_of self.now.numbers.now self.now.count x i j)) }
+    {
+        let key = key_of(x, i, j);
+        let from = self.first(j);
+        let ends_here = &self.numbers[from..self.first(j + 1)];
+        match ends_here.binary_search(&(key as u64)) {
+            Ok(e) => Some(from + e),
+            Err(_) => None,
         }
-        if here > key {
-            return count;
-        }
-        e += 1;
     }
-    count
 }

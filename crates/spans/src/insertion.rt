@@ -5,59 +5,52 @@ ghost use Rattle.spans.specs.Area.{key_at};
 ghost use Rattle.spans.specs.Gathered.{Ascending};
 ghost use Rattle.spans.specs.Steps.{Belongs, Opened, Inserts};
 
-use super::area::number;
+use super::area::Area;
 
-// Puts the key among the first `count` places, unless it is there; answers how many places there are then.
-pub fn insert(area: &mut [u64], count: usize, key: usize) -> usize
-    requires { Ascending area.old count × (count < length area.old) }
-    ensures { Inserts area.old area.new count key result }
-{
-    let e = place_for(area, count, key);
-    if is_before(area, e, key) {
-        return count;
-    }
-    make_room(area, e, count);
-    area[e] = key as u64;
-    count + 1
-}
-
-// The first place with a greater key.
-fn place_for(area: &[u64], count: usize, key: usize) -> usize
-    requires { count ≤ length area.now }
-    ensures { Belongs area.now count key result }
-{
-    let mut e = count;
-    while e > 0 {
-        if number(area, e - 1) <= key {
-            return e;
+impl Area<'_> {
+    // Puts the key among the places, unless it is there.
+    pub fn insert(&mut self, key: usize)
+        requires { Ascending self.old.numbers.now self.old.count × (self.old.count < length self.old.numbers.now) }
+        ensures inserts { Inserts self.old.numbers.now self.new.numbers.now self.old.count key self.new.count }
+        ensures same { self.new.numbers.ghost_name ≡ self.old.numbers.ghost_name }
+    {
+        let e = self.place_for(key);
+        if self.is_before(e, key) {
+            return;
         }
-        e -= 1;
+        self.make_room(e);
+        self.numbers[e] = key as u64;
+        self.count += 1;
     }
-    0
-}
 
-// Whether the key stands just before place e.
-fn is_before(area: &[u64], e: usize, key: usize) -> bool
-    requires { e ≤ length area.now }
-    ensures { Tells result ((0 < e) × (key_at area.now (e - 1) ≡ key)) }
-{
-    if e == 0 {
-        return false;
+    // The first place with a greater key.
+    fn place_for(&self, key: usize) -> usize
+        requires { self.now.count ≤ length self.now.numbers.now }
+        ensures { Belongs self.now.numbers.now self.now.count key result }
+    {
+        for e in (0..self.count).rev() {
+            if self.number(e) <= key {
+                return e + 1;
+            }
+        }
+        0
     }
-    if number(area, e - 1) == key {
-        return true;
-    }
-    false
-}
 
-// Moves the keys from place `from` on one place up.
-fn make_room(area: &mut [u64], from: usize, count: usize)
-    requires { (from ≤ count) × (count < length area.old) }
-    ensures { Opened area.old area.new from count }
-{
-    let mut e = count;
-    while e > from {
-        area[e] = area[e - 1];
-        e -= 1;
+    // Whether the key stands just before place e.
+    fn is_before(&self, e: usize, key: usize) -> bool
+        requires { e ≤ length self.now.numbers.now }
+        ensures { Tells result ((0 < e) × (key_at self.now.numbers.now (e - 1) ≡ key)) }
+    {
+        e > 0 && self.number(e - 1) == key
+    }
+
+    // Moves the keys from place `from` on one place up.
+    fn make_room(&mut self, from: usize)
+        requires { (from ≤ self.old.count) × (self.old.count < length self.old.numbers.now) }
+        ensures opened { Opened self.old.numbers.now self.new.numbers.now from self.old.count }
+        ensures count { self.new.count ≡ self.old.count }
+        ensures same { self.new.numbers.ghost_name ≡ self.old.numbers.ghost_name }
+    {
+        self.numbers.copy_within(from..self.count, from + 1);
     }
 }

@@ -15,10 +15,8 @@ pub fn symbols_of(rules: &[u8], words: &[u64]) -> [u8; 256]
 {
     let sets = table::sets_in(rules);
     let mut symbols = [0u8; 256];
-    let mut s = 0;
-    while s < sets {
+    for s in 0..sets {
         symbols[s] = symbol_of(rules, words, s);
-        s += 1;
     }
     symbols
 }

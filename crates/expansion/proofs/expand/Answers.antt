@@ -1,15 +1,9 @@
 -- `expansion::expand` meets its contract. Assumes nothing.
-use Rattle.expansion.proofs.Twice.{expand_now, again_formed, again-unexpanded, expand-then}
+use Rattle.expansion.proofs.Twice.{expand_now, again-unexpanded, expand-then}
 use Rattle.expansion.proofs.expand.Goals as goal
-
-pub try_expand-requires : goal.try_expand-requires
-try_expand-requires c = c.requires.is
 
 pub returns-then-try_expand : goal.returns-then-try_expand
 returns-then-try_expand c = expand_now _ _ _ c.try_expand.ensures c.if-try_expand.true
-
-pub collect-requires : goal.collect-requires
-collect-requires c = again_formed _ _ _ c.requires c.try_expand.ensures c.if-try_expand.false
 
 pub try_expand-requires-2 : goal.try_expand-requires-2
 try_expand-requires-2 c = again-unexpanded _ _ _ c.requires c.try_expand.ensures c.if-try_expand.false _ c.collect.ensures

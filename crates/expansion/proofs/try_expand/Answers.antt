@@ -2,7 +2,7 @@
 use native.Mathlib.Omega.{arith}
 use Rattle.expansion.proofs.Closed.{closed-words, closed-within, closed_countable}
 use Rattle.table.proofs.Formed.{formed-rules}
-use Rattle.expansion.proofs.Tried.{has_room_lem, tried_not, tried}
+use Rattle.expansion.proofs.Tried.{tried_not, growable, tried_grown}
 use Rattle.expansion.proofs.try_expand.Goals as goal
 
 pub closure_of-closure-requires : goal.closure_of-closure-requires
@@ -12,30 +12,19 @@ closure_of-closure-requires c =
 pub symbols_after-symbols-requires : goal.symbols_after-symbols-requires
 symbols_after-symbols-requires c = (formed-rules c.requires.formed, c.closure_of-closure.ensures.within)
 
-pub missing-missing-requires : goal.missing-missing-requires
-missing-missing-requires c = record { countable = closed_countable _ _ _ (record { is = c.requires; held = c.closure_of-closure.ensures }); holds_symbols = c.symbols_after-symbols.ensures }
-
-pub free_sets-free-requires : goal.free_sets-free-requires
-free_sets-free-requires c =
-    omega (arith, c.sets_in.ensures, c.requires.formed.laid.sized.cells)
+pub missing-missing-requires-clause-countable : goal.missing-missing-requires-clause-countable
+missing-missing-requires-clause-countable c = closed_countable _ _ _ c.requires c.closure_of-closure.ensures.within
 
 pub returns-then-missing-free : goal.returns-then-missing-free
 returns-then-missing-free c =
-    tried_not _ _ _ (record { is = c.requires; held = c.closure_of-closure.ensures }) c.missing-missing.ensures c.sets_in.ensures c.free_sets-free.ensures
-    (omega arith)
+    tried_not _ _ _ c.requires c.closure_of-closure.ensures c.missing-missing.ensures c.sets_in.ensures c.free_sets-free.ensures (omega arith)
 
 pub grow-requires : goal.grow-requires
 grow-requires c =
-    record {
-      closed = record { is = c.requires; held = c.closure_of-closure.ensures };
-      symbols = c.symbols_after-symbols.ensures;
-      room = has_room_lem _ _ _ (record { is = c.requires; held = c.closure_of-closure.ensures })
-          c.missing-missing.ensures c.sets_in.ensures c.free_sets-free.ensures (omega arith);
-    }
+    growable _ _ _ c.requires c.closure_of-closure.ensures c.missing-missing.ensures c.sets_in.ensures c.free_sets-free.ensures
+    c.symbols_after-symbols.ensures (omega arith)
 
 pub returns : goal.returns
 returns c =
-    tried _ _ c.requires
-    (has_room_lem _ _ _ (record { is = c.requires; held = c.closure_of-closure.ensures }) c.missing-missing.ensures c.sets_in.ensures c.free_sets-free.ensures
-    (omega arith))
-    c.grow.ensures
+    tried_grown _ _ _ c.requires c.closure_of-closure.ensures c.missing-missing.ensures c.sets_in.ensures c.free_sets-free.ensures
+    (omega arith) c.grow.ensures

@@ -11,10 +11,6 @@ pub returns-then-old-ne0 : goal.returns-then-old-ne0
 returns-then-old-ne0 c =
     answer-old _ _ _ (λ j h. (c.type_inv.key (0 + j)).fits) c.requires _ c.find-old.ensures c.if-old-ne0.true
 
-pub lowest_free-t-requires : goal.lowest_free-t-requires
-lowest_free-t-requires c =
-    omega (arith, c.sets_in.ensures, c.requires.laid.cells)
-
 pub make-requires : goal.make-requires
 make-requires c =
     let inside = lowest-inside c.sets_in.ensures c.lowest_free-t.ensures c.requires.some_sets in

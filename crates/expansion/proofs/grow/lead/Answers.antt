@@ -1,6 +1,4 @@
 -- `expansion::grow::lead` meets its contract. The invariant: sets and row are those of the symbols below `from`. Assumes nothing.
-use native.Mathlib.Omega.{arith}
-use Rattle.expansion.proofs.Rest.{least}
 use Rattle.expansion.proofs.Lead.{lead_start, lead-aims, lead-turn, lead-end}
 use borrow.Author.Rules.{rules}
 use Rattle.expansion.proofs.grow.lead.Goals as goal
@@ -13,15 +11,6 @@ returns-in_default c = lead-end _ _ _ _ c.requires c.loop-x.invariant.0 c.in_def
 
 pub lead_on-requires : goal.lead_on-requires
 lead_on-requires c = lead-aims _ _ _ _ c.requires c.loop-x.invariant.0 c.in-At.is c.next.ensures
-
-pub bounds-row-x : goal.bounds-row-x
-bounds-row-x c = omega (arith, c.loop-x.invariant.0.long, (least _ c.loop-x.from c.in-At.is c.next.ensures).inside)
-
-pub overflow_add-from : goal.overflow_add-from
-overflow_add-from c = omega (arith, (least _ c.loop-x.from c.in-At.is c.next.ensures).inside)
-
-pub loop-x-smaller : goal.loop-x-smaller
-loop-x-smaller c = let l = least _ c.loop-x.from c.in-At.is c.next.ensures in omega (arith, l.inside, l.above)
 
 pub loop-x-preserved : goal.loop-x-preserved
 loop-x-preserved c = (lead-turn _ _ _ _ c.requires c.loop-x.invariant.0 c.in-At.is c.next.ensures c.lead_on.ensures, search rules, search rules)

@@ -1,7 +1,6 @@
 -- `expansion::room::missing` meets its contract. The invariant: n of the symbols below `from` lead to a kernel that no set has.
 -- Assumes nothing.
 use native.Mathlib.Omega.{arith}
-use Rattle.expansion.proofs.Rest.{least}
 use Rattle.expansion.proofs.Missing.{one-small, count_start, count-above, count_turn, count-end}
 use Rattle.expansion.proofs.room.missing.Goals as goal
 
@@ -20,15 +19,6 @@ pub overflow_add-n : goal.overflow_add-n
 overflow_add-n c =
     let one = one-small c.args.rules.now c.args.words.now c.args.closure c.in-At.x in
     omega (arith, c.loop-x.invariant.inside, c.loop-x.invariant.small, c.one_if_missing-n.ensures, one)
-
-pub overflow_add-from : goal.overflow_add-from
-overflow_add-from c =
-    omega (arith, (least _ c.loop-x.from c.in-At.is c.next.ensures).inside)
-
-pub loop-x-smaller : goal.loop-x-smaller
-loop-x-smaller c =
-    let l = least _ c.loop-x.from c.in-At.is c.next.ensures in
-    omega (arith, l.inside, l.above)
 
 pub loop-x-preserved : goal.loop-x-preserved
 loop-x-preserved c =
