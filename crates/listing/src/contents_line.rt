@@ -29,6 +29,7 @@ fn put_entries(cells: &[u8], sets: usize, text: &mut Text)
 }
 
 // Puts a set's number and e or u, if the set is in use.
+#[tactic(auto, using(crate::proofs::Lengths::three_digits))]
 fn put_entry(cells: &[u8], s: usize, text: &mut Text)
     requires { (s < 255) × (s * 128 + 128 ≤ length cells.now) × (text.old.end + 6 ≤ length text.old.bytes.now) }
     ensures { Adds text.old text.new (when (used cells.now s) (entry_of cells.now s) []) }

@@ -51,6 +51,7 @@ fn put_kernel(words: &[u64], at: usize, text: &mut Text)
 }
 
 // Puts an item as rule.dot.
+#[tactic(auto, using(crate::proofs::Lengths::three_digits))]
 fn put_item(text: &mut Text, item: usize)
     requires { (item < 1024) × (text.old.end + 9 ≤ length text.old.bytes.now) }
     ensures { Adds text.old text.new (item_of item) }
@@ -87,6 +88,7 @@ fn put_transitions(cells: &[u8], s: usize, text: &mut Text)
 }
 
 // Puts symbol>target, if the set has a target on the symbol.
+#[tactic(auto, using(crate::proofs::Lengths::three_digits))]
 fn put_transition(cells: &[u8], s: usize, x: usize, text: &mut Text)
     requires { (s < 255) × (x < 128) × (s * 128 + 128 ≤ length cells.now) × (text.old.end + 10 ≤ length text.old.bytes.now) }
     ensures { Adds text.old text.new (when (leads cells.now s x) (transition_of cells.now s x) []) }

@@ -38,6 +38,7 @@ pub fn put_parse(answer: usize, links: usize, sets: usize, text: &mut Text)
 }
 
 // Whether Parse got past its checks: a verdict, NO-SETS or NO-LINKS.
+#[tactic(auto, using(crate::proofs::Lines::shown_after, crate::proofs::Lines::shown_before))]
 fn past_checks(answer: usize) -> bool
     ensures { result ≡ past_checks answer }
 {

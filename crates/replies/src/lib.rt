@@ -14,7 +14,6 @@ ghost use Rattle.text.specs.Puts.{Adds};
 ghost use Rattle.replies.specs.Reply.{text_of, Printable};
 
 use listed::put_listing;
-use listing::TEXT;
 use symbols::Answer;
 use text::Text;
 
@@ -33,7 +32,7 @@ pub enum Reply {
 }
 
 // Room for any reply: the pieces of the longest listing, its contents line and 128 bodies.
-pub const ROOM: usize = 129 * TEXT;
+pub const ROOM: usize = 129 * listing::TEXT;
 
 // Puts the text of a reply about the table in these slices.
 pub fn put(reply: Reply, rules: &[u8], cells: &[u8], words: &[u64], text: &mut Text)
@@ -44,7 +43,12 @@ pub fn put(reply: Reply, rules: &[u8], cells: &[u8], words: &[u64], text: &mut T
     match reply {
         Reply::Alone(a) => answer::put_answer(usize::from(a.number()), text),
         Reply::Change(a, rule) => answer::put_change(usize::from(a.number()), rule, text),
-        Reply::Parse(a, links, sets) => answer::put_parse(usize::from(a.number()), links, sets, text),
+        Reply::Parse(a, links, sets) => answer::put_parse(
+            usize::from(a.number()),
+            links,
+            sets,
+            text,
+        ),
         Reply::Collect(a, sets) => answer::put_collect(usize::from(a.number()), sets, text),
         Reply::Listing => put_listing(rules, cells, words, text),
     }

@@ -1,15 +1,10 @@
 -- `put_entry` meets its contract. Assumes nothing.
 use mathlib.Core.Path.{refl}
-use native.Mathlib.Omega.{arith}
 use Rattle.laws.proofs.Choice.{when_yes, when_no}
 use Rattle.text.proofs.Putting.{adds_none, adds_then, adds_as}
 use Rattle.listing.specs.Walk.{entry_of}
-use Rattle.listing.proofs.Lengths.{three_digits}
 use Rattle.listing.proofs.Walks.{not_used, is-used, entry_put}
 use Rattle.listing.proofs.contents_line.put_entry.Goals as goal
-
-pub put_byte-requires : goal.put_byte-requires
-put_byte-requires c = omega (arith, three_digits c.args.s (omega arith))
 
 pub returns-then-m-ne-FREE : goal.returns-then-m-ne-FREE
 unfolding entry_of

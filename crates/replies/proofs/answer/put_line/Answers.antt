@@ -1,7 +1,7 @@
 -- `put_line` meets its contract: what is put one after the other is the line of the numbers. Assumes nothing.
 use native.Mathlib.Omega.{arith}
 use mathlib.Core.Path.{◌≡◌, ap, ◌∙◌}
-use lib.ListN.{length, take, get_or}
+use lib.ListN.{take, get_or}
 use Rattle.std.proofs.Math.Seq.{take-length}
 use Rattle.text.specs.Text.{spaced}
 use Rattle.text.proofs.Decimal.{decimal-length}
