@@ -9,6 +9,7 @@ use super::calls;
 use replies::Reply;
 use script::Command;
 use symbols::Answer;
+use text::Text;
 
 // What a command leaves beside the numbers: its reply, and the size of the link pool from then on.
 #[derive(Clone, Copy)]
@@ -100,9 +101,10 @@ pub fn answer(
     let command = script::read(line, &mut symbols);
     let done = obey(command, &symbols, rules, cells, words, links, pool);
     let reply = done.reply;
-    let end = replies::put(reply, rules, cells, words, out, at);
+    let mut text = Text { bytes: out, end: at };
+    replies::put(reply, rules, cells, words, &mut text);
     Answered {
         pool: done.pool,
-        end,
+        end: text.end,
     }
 }

@@ -1,53 +1,45 @@
 -- A loop that puts texts: what it has put is the list so far. Assumes nothing.
 use mathlib.Core.Bool.{Bool, true, false, not}
-use mathlib.Core.Path.{◌≡◌, refl, sym, ap, ◌∙◌}
+use mathlib.Core.Path.{◌≡◌, sym, ap, ◌∙◌}
 use mathlib.Core.List.{List, [], ◌∷◌, ◌++◌}
 use Prim.Native.Nat.{ℕ, ◌+◌, ◌*◌, ◌≤◌, ◌<◌, zero-le}
 use native.Mathlib.Omega.{arith}
 use lib.Dec.{eqb, ltb, leb}
-use lib.ListN.{length}
 use borrow.Author.Tests.{lt-ltb, le-ltb, le-leb, lt-leb, eq-eqb, ne_eqb}
 use Rattle.laws.specs.Choice.{when}
 use Rattle.kernels.specs.Kernel.{has, holds, Least}
-use Rattle.text.specs.Puts.{Puts}
-use Rattle.text.proofs.Putting.{puts_none, puts_then, puts_as}
+use Rattle.text.specs.Puts.{Adds}
+use Rattle.text.specs.declared.Text.{Text}
+use Rattle.text.proofs.Putting.{adds_none, adds_then, adds_as}
 use Rattle.text.specs.Text.{SPACE, decimal}
 use Rattle.listing.specs.Printed.{set_text, accept_text}
 use Rattle.listing.specs.Walk.{listed, cell_at, leads, transition_of, reduction_of, expanded_of}
 use Rattle.listing.proofs.Listed.{listed-none, listed_turn, listed_yes, listed_skip}
 
 -- the texts of the numbers from a on and below b are put
-pub record Put (p : ℕ → Bool) (f : ℕ → List ℕ) (a b : ℕ) (before : List ℕ) (start : ℕ) (out : List ℕ) (end : ℕ) : Type 0 where
-  pub same_length : length out ≡ length before
-  pub puts : Puts before start out end (listed p f a b)
+module _ (p : ℕ → Bool) (f : ℕ → List ℕ) (a : ℕ) {start : Text} where
+  pub put-none : Adds start start (listed p f a a)
+  put-none = adds_as (sym (listed-none p f a)) (adds_none start)
 
-module _ {p : ℕ → Bool} {f : ℕ → List ℕ} {a : ℕ} {before : List ℕ} {start : ℕ} where
-  pub put-none : Put p f a a before start before start
-  put-none = record { same_length = refl; puts = puts_as (sym (listed-none p f a)) (puts_none before start) }
-
-  module _ {b : ℕ} {out next : List ℕ} {end past : ℕ} (so_far : Put p f a b before start out end) (same : length next ≡ length out) where
+  module _ {b : ℕ} {now next : Text} (so_far : Adds start now (listed p f a b)) where
     -- a turn that puts b's text if b passes
-    pub put-turn : a ≤ b → Puts out end next past (when (p b) (f b) []) → Put p f a (b + 1) before start next past
-    put-turn l q = record { same_length = same ∙ so_far.same_length; puts = puts_as (sym (listed_turn p f a b l)) (puts_then so_far.puts q) }
+    pub put-turn : a ≤ b → Adds now next (when (p b) (f b) []) → Adds start next (listed p f a (b + 1))
+    put-turn l q = adds_as (sym (listed_turn p f a b l)) (adds_then so_far q)
 
     -- a turn at the next number that passes
-    pub put_next : {c : ℕ} → a ≤ b → b ≤ c → ((k : ℕ) → b ≤ k → k < c → p k ≡ false) → p c ≡ true → Puts out end next past (f c)
-        → Put p f a (c + 1) before start next past
-    put_next {c} l m none there q = record {
-      same_length = same ∙ so_far.same_length;
-      puts = puts_as (ap (λ t. t ++ f c) (listed_skip p f a b c l m none) ∙ listed_yes p f a (omega arith) there) (puts_then so_far.puts q);
-    }
+    pub put_next : {c : ℕ} → a ≤ b → b ≤ c → ((k : ℕ) → b ≤ k → k < c → p k ≡ false) → p c ≡ true → Adds now next (f c)
+        → Adds start next (listed p f a (c + 1))
+    put_next {c} l m none there q =
+        adds_as (ap (λ t. t ++ f c) (listed_skip p f a b c l m none) ∙ listed_yes p f a (omega arith) there) (adds_then so_far q)
 
 -- ---- a walk by `next`
 
-module _ (ws : List ℕ) (at : ℕ) {f : ℕ → List ℕ} {before : List ℕ} {start : ℕ} {b : ℕ} {out : List ℕ} {end : ℕ} (so_far : Put (holds ws at) f 0 b before start out end) where
-  pub walk_next : {n c : ℕ} {next : List ℕ} {past : ℕ} → Least ws at n b c → length next ≡ length out → Puts out end next past (f c)
-      → Put (holds ws at) f 0 (c + 1) before start next past
-  walk_next l same q =
-      put_next so_far same zero-le l.above (λ k g h. ap (λ x. eqb x 1) (l.none k g h)) (eq-eqb _ 1 l.there) q
+module _ (ws : List ℕ) (at : ℕ) (f : ℕ → List ℕ) {start : Text} {b : ℕ} {now : Text} (so_far : Adds start now (listed (holds ws at) f 0 b)) where
+  pub walk_next : {n c : ℕ} {next : Text} → Least ws at n b c → Adds now next (f c) → Adds start next (listed (holds ws at) f 0 (c + 1))
+  walk_next l q = put_next (holds ws at) f 0 so_far zero-le l.above (λ k g h. ap (λ x. eqb x 1) (l.none k g h)) (eq-eqb _ 1 l.there) q
 
-  pub walk_end : (n : ℕ) → b ≤ n * 64 → ((k : ℕ) → b ≤ k → k < n * 64 → has ws at k ≡ 0) → Puts before start out end (listed (holds ws at) f 0 (n * 64))
-  walk_end n l none = puts_as (listed_skip (holds ws at) f 0 b (n * 64) zero-le l (λ k g h. ap (λ x. eqb x 1) (none k g h))) so_far.puts
+  pub walk_end : (n : ℕ) → b ≤ n * 64 → ((k : ℕ) → b ≤ k → k < n * 64 → has ws at k ≡ 0) → Adds start now (listed (holds ws at) f 0 (n * 64))
+  walk_end n l none = adds_as (listed_skip (holds ws at) f 0 b (n * 64) zero-le l (λ k g h. ap (λ x. eqb x 1) (none k g h))) so_far
 
 -- ---- a set's mark m and a target t, as they were read
 

@@ -1,8 +1,8 @@
 // The listing: what `L` prints of a table.
 //
-// It is printed in pieces, each put into a lent text from its beginning: the contents line, and the body of one set. So a
-// program needs room for one piece, and writes it out before the next; TEXT bytes are room enough for either, however full
-// the table is. The longest body has 1,024 items of 6 bytes, 127 transitions of 8 and 128 reductions of 4.
+// It is printed in pieces, each put at the end of a text: the contents line, and the body of one set. TEXT bytes are room enough for
+// either, however full the table is, so a program with little room writes out each piece before the next. The longest body has
+// 1,024 items of 6 bytes, 127 transitions of 8 and 128 reductions of 4.
 //
 // Cells and words are read where they lie, as `table` lays them out. The items of a kernel and the reductions are found by
 // `kernels::next`, so a body costs what it prints, 18 words and 127 cells; the contents line costs a cell for each set.

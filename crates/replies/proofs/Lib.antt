@@ -1,4 +1,2 @@
 -- The laws that the proofs of the functions cite.
 pub mod Lines
-pub mod Parts
-pub mod Replied

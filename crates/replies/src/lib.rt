@@ -1,21 +1,21 @@
 // What the desk prints for a command: a reply to its text.
 //
-// A `Reply` is what a call leaves to print. Its text is put into a lent output, at a place where ROOM bytes are left: an answer
-// line, or the whole listing of the table, contents line and bodies as `listing` puts them, one after the other. ROOM is a megabyte,
-// for the listing of a full table; every other reply takes some 15 bytes.
+// A `Reply` is what a call leaves to print. It is put at the end of a text where ROOM bytes are left: an answer line, or the whole
+// listing of the table, contents line and bodies as `listing` puts them, one after the other. ROOM is a megabyte, for the listing of
+// a full table; every other reply takes some 15 bytes.
 //
 // specs/Printed.antt has the line of each answer, specs/Reply.antt the text of each reply, and what its numbers must be to have room:
 // of four digits at most.
 #![tactic(auto)]
 
-ghost use Rattle.std.specs.Prelude.{◌≡◌, ◌+◌, ◌≤◌, length};
+ghost use Rattle.std.specs.Prelude.{◌+◌, ◌≤◌, length};
 ghost use Rattle.table.specs.Layout.{mem, view};
-ghost use Rattle.text.specs.Puts.{Puts};
+ghost use Rattle.text.specs.Puts.{Adds};
 ghost use Rattle.replies.specs.Reply.{text_of, Printable};
 
 use listed::put_listing;
-use listing::TEXT;
 use symbols::Answer;
+use text::Text;
 
 mod answer; // answer.rt: the line of an answer
 mod listed; // listed.rt: the whole listing
@@ -32,32 +32,24 @@ pub enum Reply {
 }
 
 // Room for any reply: the pieces of the longest listing, its contents line and 128 bodies.
-pub const ROOM: usize = 129 * TEXT;
+pub const ROOM: usize = 129 * listing::TEXT;
 
-// Puts the text of a reply about the table in these slices, and hands back the place after it.
-pub fn put(
-    reply: Reply,
-    rules: &[u8],
-    cells: &[u8],
-    words: &[u64],
-    out: &mut [u8],
-    at: usize,
-) -> usize
+// Puts the text of a reply about the table in these slices.
+pub fn put(reply: Reply, rules: &[u8], cells: &[u8], words: &[u64], text: &mut Text)
     requires printable { Printable (mem rules.now cells.now words.now) reply }
-    requires cells_len_bound { (length cells.now ≤ 16384) × (at + 1056768 ≤ length out.old) }
-    ensures { Puts out.old at out.new result (text_of (view (mem rules.now cells.now words.now)) reply) }
+    requires cells_len_bound { (length cells.now ≤ 16384) × (text.old.end + 1056768 ≤ length text.old.bytes.now) }
+    ensures { Adds text.old text.new (text_of (view (mem rules.now cells.now words.now)) reply) }
 {
     match reply {
-        Reply::Alone(a) => answer::put_answer(out, at, wide(a.number())),
-        Reply::Change(a, rule) => answer::put_change(out, at, wide(a.number()), rule),
-        Reply::Parse(a, links, sets) => answer::put_parse(out, at, wide(a.number()), links, sets),
-        Reply::Collect(a, sets) => answer::put_collect(out, at, wide(a.number()), sets),
-        Reply::Listing => put_listing(rules, cells, words, out, at),
+        Reply::Alone(a) => answer::put_answer(usize::from(a.number()), text),
+        Reply::Change(a, rule) => answer::put_change(usize::from(a.number()), rule, text),
+        Reply::Parse(a, links, sets) => answer::put_parse(
+            usize::from(a.number()),
+            links,
+            sets,
+            text,
+        ),
+        Reply::Collect(a, sets) => answer::put_collect(usize::from(a.number()), sets, text),
+        Reply::Listing => put_listing(rules, cells, words, text),
     }
-}
-
-fn wide(x: u8) -> usize
-    ensures { result ≡ x }
-{
-    x as usize
 }

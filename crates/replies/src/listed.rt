@@ -3,48 +3,34 @@ ghost use Rattle.std.specs.Prelude.{[], ◌+◌, ◌*◌, ◌≤◌, ◌<◌, le
 ghost use Rattle.laws.specs.Choice.{when};
 ghost use Rattle.table.specs.Layout.{sets_in, mem, view};
 ghost use Rattle.table.specs.Laid.{Laid};
-ghost use Rattle.text.specs.Puts.{Puts};
+ghost use Rattle.text.specs.Puts.{Adds};
 ghost use Rattle.listing.specs.Printed.{body, listing};
-ghost use Rattle.listing.specs.Walk.{used, contents_of};
+ghost use Rattle.listing.specs.Walk.{used};
 
-use listing::TEXT;
+use text::Text;
 
 // Puts the contents line, then one body per set.
-pub fn put_listing(rules: &[u8], cells: &[u8], words: &[u64], out: &mut [u8], at: usize) -> usize
+pub fn put_listing(rules: &[u8], cells: &[u8], words: &[u64], text: &mut Text)
     requires laid { Laid (mem rules.now cells.now words.now) }
-    requires cells_len_bound { (length cells.now ≤ 16384) × (at + 1056768 ≤ length out.old) }
-    ensures { Puts out.old at out.new result
-        (listing (view (mem rules.now cells.now words.now))) }
+    requires cells_len_bound { (length cells.now ≤ 16384) × (text.old.end + 1056768 ≤ length text.old.bytes.now) }
+    ensures { Adds text.old text.new (listing (view (mem rules.now cells.now words.now))) }
 {
     let sets = table::sets_in(rules);
-    let mut end = put_contents(cells, sets, out, at);
-    let mut s: usize = 0;
-    while s < sets {
-        end = put_body(rules, cells, words, s, out, end);
-        s += 1;
+    listing::contents(cells, sets, text);
+    for s in 0..sets {
+        put_body(rules, cells, words, s, text);
     }
-    end
-}
-
-// Puts the contents line.
-fn put_contents(cells: &[u8], sets: usize, out: &mut [u8], at: usize) -> usize
-    requires { (sets ≤ 255) × (sets * 128 ≤ length cells.now) × (at + 8192 ≤ length out.old) }
-    ensures { (result ≤ at + 8192) × Puts out.old at out.new result (contents_of cells.now sets) }
-{
-    let room = at + TEXT;
-    at + listing::contents(cells, sets, &mut out[at..room])
 }
 
 // Puts the body of set s, if the set is in use.
-fn put_body(rules: &[u8], cells: &[u8], words: &[u64], s: usize, out: &mut [u8], at: usize) -> usize
+fn put_body(rules: &[u8], cells: &[u8], words: &[u64], s: usize, text: &mut Text)
     requires laid { Laid (mem rules.now cells.now words.now) }
-    requires s_bound { (s < sets_in rules.now) × (at + 8192 ≤ length out.old) }
-    ensures { (result ≤ at + 8192) × Puts out.old at out.new result
+    requires s_bound { (s < sets_in rules.now) × (text.old.end + 8192 ≤ length text.old.bytes.now) }
+    ensures body { Adds text.old text.new
         (when (used cells.now s) (body (view (mem rules.now cells.now words.now)) s) []) }
+    ensures within { text.new.end ≤ text.old.end + 8192 }
 {
-    if table::mark(cells, s) == table::FREE {
-        return at;
+    if table::mark(cells, s) != table::FREE {
+        listing::body(cells, words, s, text);
     }
-    let room = at + TEXT;
-    at + listing::body(cells, words, s, &mut out[at..room])
 }

@@ -6,7 +6,8 @@ use native.Mathlib.Numerals.{add-one}
 use native.Mathlib.Omega.{arith}
 use lib.ListN.{length, take, drop, set, take-append-drop, length-append}
 use lib.Seq.{take-suc-set, drop-set-lt, drop-drop}
-use Rattle.text.specs.Puts.{Puts}
+use Rattle.text.specs.Puts.{Puts, Adds}
+use Rattle.text.specs.declared.Text.{Text}
 
 pub puts_none : (out : List ℕ) (at : ℕ) → Puts out at out at []
 puts_none out at = record { moved = omega arith; so_far = sym (append-nil (take at out)); beyond = refl }
@@ -43,3 +44,14 @@ puts_one {a} {b} {c} {i} {j} {k} {x} p q =
           ∙ take-append-drop k c,
       e,
     )
+
+-- ---- the same of a text
+
+pub adds_none : (a : Text) → Adds a a []
+adds_none a = record { same = refl; room = refl; puts = puts_none a.bytes.now a.end }
+
+pub adds_then : {a b c : Text} {x y : List ℕ} → Adds a b x → Adds b c y → Adds a c (x ++ y)
+adds_then p q = record { same = q.same ∙ p.same; room = q.room ∙ p.room; puts = puts_then p.puts q.puts }
+
+pub adds_as : {a b : Text} {x y : List ℕ} → x ≡ y → Adds a b x → Adds a b y
+adds_as {a} {b} e p = subst (λ z. Adds a b z) e p

@@ -1,8 +1,8 @@
 // Text: bytes and decimal numbers put into a lent output.
 //
-// Each `put_..` takes the place to start at and hands back the place after what it put; what stands before and beyond stays as it
-// was. None tests for room when it runs: its contract asks for it, 4 bytes for a number of 0 to 9999. What is put leaves one text
-// (`puts_one`, proofs/Putting.antt). Writing out is the program's.
+// A `Text` is such an output with the place up to which it is written. Each `put_..` puts its bytes there and moves the end on;
+// what stands before and beyond stays as it was. None tests for room when it runs: its contract asks for it, 4 bytes for a number of
+// 0 to 9999. What is put leaves one text (`puts_one`, proofs/Putting.antt). Writing out is the program's.
 //
 // specs/Text.antt has how a number is spelled, for those who put it and for `script`, which reads it; proofs/Decimal.antt that no two
 // are spelled the same.
@@ -12,47 +12,55 @@
 
 ghost use Rattle.std.specs.Prelude.{◌≡◌, [], ◌∷◌, ◌+◌, ◌≤◌, ◌<◌, length};
 ghost use Rattle.text.specs.Text.{SPACE, NEWLINE, decimal};
-ghost use Rattle.text.specs.Puts.{Puts, digit_of};
+ghost use Rattle.text.specs.Puts.{Adds, digit_of};
 ghost use Rattle.text.specs.Newline.{index_of, slice};
 
-// Puts a byte at a place of the text, and hands back the place after it.
-pub fn put_byte(out: &mut [u8], at: usize, b: u8) -> usize
-    requires { at < length out.old }
-    ensures { Puts out.old at out.new result (b ∷ []) }
-{
-    out[at] = b;
-    at + 1
+// A lent output, and the place after what is put into it.
+#[derive(Drop)]
+pub struct Text<'a> {
+    pub bytes: &'a mut [u8],
+    pub end: usize,
 }
 
-// Puts a number in decimal.
-pub fn put_number(out: &mut [u8], at: usize, n: usize) -> usize
-    requires { (n ≤ 9999) × (at + 4 ≤ length out.old) }
-    ensures { Puts out.old at out.new result (decimal n) }
-{
-    let thousands = put_digit(out, at, 1000, n);
-    let hundreds = put_digit(out, thousands, 100, n);
-    let tens = put_digit(out, hundreds, 10, n);
-    put_byte(out, tens, b'0' + (n % 10) as u8)
-}
-
-// Puts the digit of n that counts units, unless n is below one.
-fn put_digit(out: &mut [u8], at: usize, unit: usize, n: usize) -> usize
-    requires { (at < length out.old) × (1 ≤ unit) }
-    ensures { Puts out.old at out.new result (digit_of unit n) }
-{
-    if n < unit {
-        return at;
+impl Text<'_> {
+    // Puts a byte.
+    pub fn put_byte(&mut self, b: u8)
+        requires { self.old.end < length self.old.bytes.now }
+        ensures { Adds self.old self.new (b ∷ []) }
+    {
+        self.bytes[self.end] = b;
+        self.end += 1;
     }
-    put_byte(out, at, b'0' + (n / unit % 10) as u8)
-}
 
-// Puts a space and a number.
-pub fn put_spaced(out: &mut [u8], at: usize, n: usize) -> usize
-    requires { (n ≤ 9999) × (at + 5 ≤ length out.old) }
-    ensures { Puts out.old at out.new result (SPACE ∷ decimal n) }
-{
-    let start = put_byte(out, at, b' ');
-    put_number(out, start, n)
+    // Puts a number in decimal.
+    pub fn put_number(&mut self, n: usize)
+        requires { (n ≤ 9999) × (self.old.end + 4 ≤ length self.old.bytes.now) }
+        ensures { Adds self.old self.new (decimal n) }
+    {
+        self.put_digit(1000, n);
+        self.put_digit(100, n);
+        self.put_digit(10, n);
+        self.put_byte(b'0' + (n % 10) as u8);
+    }
+
+    // Puts the digit of n that counts units, unless n is below one.
+    fn put_digit(&mut self, unit: usize, n: usize)
+        requires { (self.old.end < length self.old.bytes.now) × (1 ≤ unit) }
+        ensures { Adds self.old self.new (digit_of unit n) }
+    {
+        if n >= unit {
+            self.put_byte(b'0' + (n / unit % 10) as u8);
+        }
+    }
+
+    // Puts a space and a number.
+    pub fn put_spaced(&mut self, n: usize)
+        requires { (n ≤ 9999) × (self.old.end + 5 ≤ length self.old.bytes.now) }
+        ensures { Adds self.old self.new (SPACE ∷ decimal n) }
+    {
+        self.put_byte(b' ');
+        self.put_number(n);
+    }
 }
 
 // Where the first newline of the first n bytes stands from `at` on, or n.
@@ -62,12 +70,8 @@ pub fn newline(text: &[u8], at: usize, n: usize) -> usize
     ensures first { result ≡ at + index_of NEWLINE (slice at n text.now) }
     ensures within { result ≤ n }
 {
-    let mut i = at;
-    while i < n {
-        if text[i] == b'\n' {
-            return i;
-        }
-        i += 1;
+    match text[at..n].iter().position(|&b| b == b'\n') {
+        Some(k) => at + k,
+        None => n,
     }
-    n
 }

@@ -1,16 +1,16 @@
 -- `contents` meets its contract. Assumes nothing.
 use native.Mathlib.Omega.{arith}
-use Rattle.text.proofs.Putting.{puts_then}
+use Rattle.text.proofs.Putting.{adds_then}
 use Rattle.listing.specs.Walk.{contents_of}
 use Rattle.listing.proofs.Lengths.{entries_length}
 use Rattle.listing.proofs.contents_line.contents.Goals as goal
 
-pub put_byte-requires : goal.put_byte-requires
-put_byte-requires c =
-    let far = entries_length c.args.cells.now c.args.sets c.requires.0 in
-    omega (arith, c.requires, c.put_byte-start.ensures.moved, c.put_byte-start.auto.out, c.put_entries-end.ensures.moved, c.put_entries-end.auto.out, far)
+pub put_byte-requires-2 : goal.put_byte-requires-2
+put_byte-requires-2 c = omega (arith, entries_length c.args.cells.now c.args.sets (omega arith))
 
-pub returns : goal.returns
+pub returns-clause-line : goal.returns-clause-line
 unfolding contents_of
-returns c =
-    puts_then c.put_byte-start.ensures (puts_then c.put_entries-end.ensures c.put_byte.ensures)
+returns-clause-line c = adds_then c.put_byte.ensures (adds_then c.put_entries.ensures c.put_byte-2.ensures)
+
+pub returns-clause-within : goal.returns-clause-within
+returns-clause-within c = omega (arith, entries_length c.args.cells.now c.args.sets (omega arith))
