@@ -18,9 +18,9 @@ pub struct Obeyed {
     pub pool: usize,
 }
 
-// Makes the command's call. Its symbols stand in the buffer as `script::read` puts them.
+// Makes the call of the command that was read. Its symbols stand in the buffer as `script::read` puts them.
 fn obey(
-    command: Command,
+    read: Option<Command>,
     symbols: &[u8],
     rules: &mut [u8],
     cells: &mut [u8],
@@ -28,12 +28,18 @@ fn obey(
     links: &mut [u16],
     pool: usize,
 ) -> Obeyed
-    requires { symbols_of command ≤ length symbols.now }
+    requires { symbols_of read ≤ length symbols.now }
     ensures { Printable (mem rules.new cells.new words.new) result.reply
         × Obeys (state (mem rules.old cells.old words.old) links.old pool)
         (state (mem rules.new cells.new words.new) links.new result.pool)
-        (text_of (view (mem rules.new cells.new words.new)) result.reply) (told symbols.now command) }
+        (text_of (view (mem rules.new cells.new words.new)) result.reply) (told symbols.now read) }
 {
+    let Some(command) = read else {
+        return Obeyed {
+            reply: Reply::Alone(Answer::Malformed),
+            pool,
+        };
+    };
     match command {
         Command::New(sets, places, size) => {
             let made = calls::new(rules, cells, words, pool, sets, places, size);
@@ -67,10 +73,6 @@ fn obey(
             let reply = calls::list(rules, cells, words);
             Obeyed { reply, pool }
         }
-        Command::Malformed => Obeyed {
-            reply: Reply::Alone(Answer::Malformed),
-            pool,
-        },
     }
 }
 
@@ -98,8 +100,8 @@ pub fn answer(
         out.old at out.new result.end }
 {
     let mut symbols = [0u8; 256];
-    let command = script::read(line, &mut symbols);
-    let done = obey(command, &symbols, rules, cells, words, links, pool);
+    let read = script::read(line, &mut symbols);
+    let done = obey(read, &symbols, rules, cells, words, links, pool);
     let reply = done.reply;
     let mut text = Text { bytes: out, end: at };
     replies::put(reply, rules, cells, words, &mut text);

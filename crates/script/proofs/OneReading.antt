@@ -1,6 +1,7 @@
 -- No second command and no second buffer fit a line. Assumes nothing.
 use mathlib.Core.Path.{◌≡◌, refl, sym, ap, ap₂, ◌∙◌}
 use mathlib.Core.List.{List, [], ◌∷◌, ◌++◌}
+use Rattle.std.specs.Prelude.{Option, Some, None}
 use Prim.Native.Nat.{ℕ, ◌+◌, ◌≤◌}
 use native.Mathlib.Numerals.{add-one}
 use native.Mathlib.Omega.{arith}
@@ -9,20 +10,20 @@ use lib.Seq.{length-take-le}
 use Rattle.script.specs.Command.{Meaning, told, symbols_of, Reads}
 use Rattle.script.specs.Command.Meaning.{new, add, delete, parse, collect, restart, list, malformed}
 use Rattle.script.specs.declared.command.Command.{Command}
-use Rattle.script.specs.declared.command.Command.TheVariants.{New, Add, Delete, Parse, Collect, Restart, List as Listing, Malformed}
+use Rattle.script.specs.declared.command.Command.TheVariants.{New, Add, Delete, Parse, Collect, Restart, List as Listing}
 use Rattle.script.proofs.Meaning.{means-one}
 
 -- the command and the symbols that tell a meaning
 
-command_of : Meaning → Command
-command_of (new s r l) = New s r l
-command_of (add x w) = Add (length w)
-command_of (delete x w) = Delete (length w)
-command_of (parse w) = Parse (length w)
-command_of collect = Collect
-command_of restart = Restart
-command_of list = Listing
-command_of malformed = Malformed
+command_of : Meaning → Option Command
+command_of (new s r l) = Some (New s r l)
+command_of (add x w) = Some (Add (length w))
+command_of (delete x w) = Some (Delete (length w))
+command_of (parse w) = Some (Parse (length w))
+command_of collect = Some Collect
+command_of restart = Some Restart
+command_of list = Some Listing
+command_of malformed = None
 
 symbols_in : Meaning → List ℕ
 symbols_in (new s r l) = []
@@ -37,33 +38,33 @@ symbols_in malformed = []
 right-length : (n : ℕ) (a : List ℕ) → n + 1 ≤ length a → length (take n (drop 1 a)) ≡ n
 right-length n a l = length-take-le n (drop 1 a) (omega (arith, length-drop 1 a))
 
-command_told : (a : List ℕ) (r : Command) → symbols_of r ≤ length a → command_of (told a r) ≡ r
+command_told : (a : List ℕ) (r : Option Command) → symbols_of r ≤ length a → command_of (told a r) ≡ r
 unfolding command_of
-command_told a (New s r l) h = refl
-command_told a (Add n) h = ap Add (right-length n a h)
-command_told a (Delete n) h = ap Delete (right-length n a h)
-command_told a (Parse n) h = ap Parse (length-take-le n a h)
-command_told a Collect h = refl
-command_told a Restart h = refl
-command_told a Listing h = refl
-command_told a Malformed h = refl
+command_told a (Some (New s r l)) h = refl
+command_told a (Some (Add n)) h = ap (λ k. Some (Add k)) (right-length n a h)
+command_told a (Some (Delete n)) h = ap (λ k. Some (Delete k)) (right-length n a h)
+command_told a (Some (Parse n)) h = ap (λ k. Some (Parse k)) (length-take-le n a h)
+command_told a (Some Collect) h = refl
+command_told a (Some Restart) h = refl
+command_told a (Some Listing) h = refl
+command_told a None h = refl
 
 left-first : (n : ℕ) (a : List ℕ) → n + 1 ≤ length a → get_or a 0 0 ∷ take n (drop 1 a) ≡ take (n + 1) a
 left-first n [] h = absurd (omega arith)
 left-first n (x ∷ a) h = ap (λ k. take k (x ∷ a)) (sym (add-one n))
 
-symbols-told : (a : List ℕ) (r : Command) → symbols_of r ≤ length a → symbols_in (told a r) ≡ take (symbols_of r) a
+symbols-told : (a : List ℕ) (r : Option Command) → symbols_of r ≤ length a → symbols_in (told a r) ≡ take (symbols_of r) a
 unfolding symbols_in
-symbols-told a (New s r l) h = refl
-symbols-told a (Add n) h = left-first n a h
-symbols-told a (Delete n) h = left-first n a h
-symbols-told a (Parse n) h = refl
-symbols-told a Collect h = refl
-symbols-told a Restart h = refl
-symbols-told a Listing h = refl
-symbols-told a Malformed h = refl
+symbols-told a (Some (New s r l)) h = refl
+symbols-told a (Some (Add n)) h = left-first n a h
+symbols-told a (Some (Delete n)) h = left-first n a h
+symbols-told a (Some (Parse n)) h = refl
+symbols-told a (Some Collect) h = refl
+symbols-told a (Some Restart) h = refl
+symbols-told a (Some Listing) h = refl
+symbols-told a None h = refl
 
-pub reads-one : {line before a b : List ℕ} {q r : Command} → 256 ≤ length a → 256 ≤ length b → Reads line before a q → Reads line before b r
+pub reads-one : {line before a b : List ℕ} {q r : Option Command} → 256 ≤ length a → 256 ≤ length b → Reads line before a q → Reads line before b r
     → (q ≡ r) × (a ≡ b)
 reads-one {line} {before} {a} {b} {q} {r} la lb x y =
     let m = means-one x.means y.means in

@@ -6,20 +6,17 @@ use mathlib.Core.List.Memᴰ
 use mathlib.Core.List.Memᴰ.{head as here}
 use mathlib.Core.List.Memᴰ.{tail as there}
 use mathlib.Core.List.{List, [], ◌∷◌, ◌++◌, append_assoc, append-nil, tail-eq_of_cons-eq, Memᴰ as In}
+use Rattle.std.specs.Prelude.{Option, Some, None}
 use Prim.Native.Nat.{ℕ, ◌+◌, ◌≤◌, ◌<◌}
-use native.Mathlib.Decide.{dec_lt}
 use native.Mathlib.Numerals.{add-one}
 use native.Mathlib.Omega.{arith}
-use lib.ListN.{length, get_or, take, drop, set, drop_of_length-le}
+use lib.ListN.{length, get_or, take, drop, set}
 use lib.Seq.{take-suc-set}
 use Rattle.laws.specs.Choice.{◌and◌}
 use Rattle.text.specs.Text.{SPACE, NEWLINE, is_digit, decimal, spaced}
 use Rattle.script.specs.Written.{AtLineEnd, Numbered, Starts}
-use Rattle.script.specs.Reading.{NumberIs, NumberAt, LineEndIs, NumbersAt}
+use Rattle.script.specs.Reading.{NumberIs, NumberAt, LineEndIs, LineEndAt, NumbersAt}
 use Rattle.script.specs.declared.cursor.Cursor.{Cursor}
-use Rattle.script.specs.declared.cursor.Number.{Number}
-use Rattle.script.specs.declared.cursor.Number.TheVariants.{Nothing}
-use Rattle.script.specs.declared.numbers.Count.TheVariants.{Are, Malformed}
 use Rattle.text.proofs.Decimal.{apart_one}
 
 -- ---- the first number
@@ -108,29 +105,26 @@ module _ {line : List ℕ} {start at : ℕ} {out : List ℕ} {n : ℕ} (p : Pass
           let (e, f) = starts-one (first-starts q) r.starts in
           (ms, subst (λ t. Numbered t ms rest) f (others q), omega arith)
 
-  pub some-text : (AtLineEnd (drop at line) → ⊥) → at < length line
-  some-text f = elim (dec_lt at (length line)) [ yes l ↦ l | no l ↦ absurd (let k : length line ≤ at = omega arith in f (ap (λ t. get_or t 0 NEWLINE) (drop_of_length-le line k))) ]
-
   -- the loop's ways out: at the line's end, at a number that there is no room for, and at what is no number
-  pub passed-end : {after : Cursor} → n ≤ length out → LineEndIs line at after → NumbersAt line start out (Are n after)
+  pub passed-end : {after : Cursor} → n ≤ length out → LineEndIs line at after → NumbersAt line start out (Some (n, after))
   unfolding NumbersAt
   passed-end l e = record { room = l; rest = drop at line; numbered = record { is = p.is; small = p.small; ends = e.ends }; past = e.past }
 
-  pub passed-full : length out ≤ n → (AtLineEnd (drop at line) → ⊥) → NumbersAt line start out Malformed
-  unfolding NumbersAt
-  passed-full l f ns rest h k = let (ms, q, s) = p.only ns rest h in some ms q s
-    where
-      some : (ms : List ℕ) → Numbered (drop at line) ms rest → length ns ≡ n + length ms → ⊥
-      some [] q s = f (none-ends q)
-      some (m ∷ ms) q s = omega arith
+  pub passed-all : {after : Cursor} → n ≡ length out → LineEndIs line at after → NumbersAt line start out (Some (length out, after))
+  passed-all {after} l e = subst (λ n. NumbersAt line start out (Some (n, after))) l (passed-end (omega arith) e)
 
-  pub passed-stuck : {r : Number} → (AtLineEnd (drop at line) → ⊥) → r ≡ Nothing → NumberAt line at r → NumbersAt line start out Malformed
-  unfolding NumberAt NumbersAt
-  passed-stuck f e g ns rest h k = let (ms, q, s) = p.only ns rest h in some ms q
+  pub passed-full : {r : Option (ℕ × Cursor)} → length out ≤ n → LineEndAt line at None → r ≡ None → NumbersAt line start out r
+  unfolding LineEndAt NumbersAt
+  passed-full l f e = subst (λ r. NumbersAt line start out r) (sym e) (λ ns rest h k. let (ms, q, s) = p.only ns rest h in some ns ms k q s)
     where
-      none : NumberAt line at Nothing
-      none = subst (λ r. NumberAt line at r) e g
+      some : (ns ms : List ℕ) {rest : List ℕ} → length ns ≤ length out → Numbered (drop at line) ms rest → length ns ≡ n + length ms → ⊥
+      some ns [] k q s = f (none-ends q)
+      some ns (m ∷ ms) k q s = omega arith
 
-      some : (ms : List ℕ) → Numbered (drop at line) ms rest → ⊥
+  pub passed-stuck : {r : Option (ℕ × Cursor)} → LineEndAt line at None → NumberAt line at None → r ≡ None → NumbersAt line start out r
+  unfolding LineEndAt NumberAt NumbersAt
+  passed-stuck f g e = subst (λ r. NumbersAt line start out r) (sym e) (λ ns rest h k. let (ms, q, s) = p.only ns rest h in some ms q)
+    where
+      some : (ms : List ℕ) {rest : List ℕ} → Numbered (drop at line) ms rest → ⊥
       some [] q = f (none-ends q)
-      some (m ∷ ms) q = none m (spaced ms ++ rest) (first-starts q)
+      some (m ∷ ms) {rest} q = g m (spaced ms ++ rest) (first-starts q)

@@ -1,10 +1,10 @@
 -- What a command line means, in 01's words ("The program"), and how what is read tells it. Assumes nothing.
-use Rattle.std.specs.Prelude.{Bool, ◌≡◌, List, [], ◌∷◌, ℕ, ◌+◌, ◌≤◌, ◌<◌, eqb, leb, length, get_or, take, drop}
+use Rattle.std.specs.Prelude.{Bool, ◌≡◌, List, [], ◌∷◌, ℕ, ◌+◌, ◌≤◌, ◌<◌, Option, Some, None, eqb, leb, length, get_or, take, drop}
 use Rattle.laws.specs.Choice.{when}
-use Rattle.laws.specs.Loops.{all_below}
+use Rattle.std.specs.List.{list_all}
 use Rattle.script.specs.Written.{Written}
 use Rattle.script.specs.declared.command.Command.{Command}
-use Rattle.script.specs.declared.command.Command.TheVariants.{New, Add, Delete, Parse, Collect, Restart, List as Listing, Malformed}
+use Rattle.script.specs.declared.command.Command.TheVariants.{New, Add, Delete, Parse, Collect, Restart, List as Listing}
 
 pub data Meaning : Type 0 where
   new : (sets rules links : ℕ) → Meaning
@@ -30,8 +30,9 @@ abbrev pub alone : Meaning → List ℕ → Meaning
 alone m [] = m
 alone m (a ∷ ns) = malformed
 
-unfoldable pub bytes : List ℕ → Bool
-bytes ns = all_below (length ns) (λ k. leb (get_or ns k 0) 255)
+-- each number is a byte
+abbrev pub bytes : List ℕ → Bool
+bytes ns = list_all (λ n. leb n 255) ns
 
 -- "a symbol or token above 255" is malformed
 abbrev pub of_symbols : List ℕ → Meaning → Meaning
@@ -56,37 +57,37 @@ pub data Means (line : List ℕ) : Meaning → Type 0 where
 
 -- ---- what is read, and how it tells the meaning
 
--- how many symbols a command has: the left one is counted
-abbrev pub symbols_of : Command → ℕ
-symbols_of (New s r l) = 0
-symbols_of (Add n) = n + 1
-symbols_of (Delete n) = n + 1
-symbols_of (Parse n) = n
-symbols_of Collect = 0
-symbols_of Restart = 0
-symbols_of Listing = 0
-symbols_of Malformed = 0
+-- how many symbols a command has: the left one is counted; what is malformed has none
+abbrev pub symbols_of : Option Command → ℕ
+symbols_of (Some (New s r l)) = 0
+symbols_of (Some (Add n)) = n + 1
+symbols_of (Some (Delete n)) = n + 1
+symbols_of (Some (Parse n)) = n
+symbols_of (Some Collect) = 0
+symbols_of (Some Restart) = 0
+symbols_of (Some Listing) = 0
+symbols_of None = 0
 
--- the meaning that a command tells, with its symbols in the buffer, the left one first
-abbrev pub told : List ℕ → Command → Meaning
-told symbols (New s r l) = new s r l
-told symbols (Add n) = add (get_or symbols 0 0) (take n (drop 1 symbols))
-told symbols (Delete n) = delete (get_or symbols 0 0) (take n (drop 1 symbols))
-told symbols (Parse n) = parse (take n symbols)
-told symbols Collect = collect
-told symbols Restart = restart
-told symbols Listing = list
-told symbols Malformed = malformed
+-- the meaning that a command tells, with its symbols in the buffer, the left one first; no command tells that the line is malformed
+abbrev pub told : List ℕ → Option Command → Meaning
+told symbols (Some (New s r l)) = new s r l
+told symbols (Some (Add n)) = add (get_or symbols 0 0) (take n (drop 1 symbols))
+told symbols (Some (Delete n)) = delete (get_or symbols 0 0) (take n (drop 1 symbols))
+told symbols (Some (Parse n)) = parse (take n symbols)
+told symbols (Some Collect) = collect
+told symbols (Some Restart) = restart
+told symbols (Some Listing) = list
+told symbols None = malformed
 
 -- the command tells what a letter and its numbers mean; it has as many symbols as there are numbers at most, and they are bytes
-pub record Tells (letter : ℕ) (ns : List ℕ) (r : Command) : Type 0 where
+pub record Tells (letter : ℕ) (ns : List ℕ) (r : Option Command) : Type 0 where
   pub means : told ns r ≡ meaning_of letter ns
   pub within : symbols_of r ≤ length ns
   pub bytes : (k : ℕ) → k < symbols_of r → get_or ns k 0 ≤ 255
 
 -- What is read of a line: the command and the symbols in the buffer tell what the line means. There are 256 symbols at most,
 -- and the buffer is as it was beyond them.
-pub record Reads (line before after : List ℕ) (r : Command) : Type 0 where
+pub record Reads (line before after : List ℕ) (r : Option Command) : Type 0 where
   pub means : Means line (told after r)
   pub few : symbols_of r ≤ 256
   pub beyond : drop (symbols_of r) after ≡ drop (symbols_of r) before

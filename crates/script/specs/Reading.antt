@@ -1,18 +1,10 @@
 -- What the steps of reading a line hand back. A text is what stands from a place of the line on. Assumes nothing.
-use Rattle.std.specs.Prelude.{◌≡◌, List, ◌∷◌, ℕ, ◌+◌, ◌-◌, ◌*◌, ◌≤◌, leb, length, get_or, take, drop}
+use Rattle.std.specs.Prelude.{◌≡◌, List, ◌∷◌, ℕ, ◌+◌, ◌-◌, ◌*◌, ◌≤◌, Option, Some, None, length, get_or, take, drop}
 use Rattle.laws.specs.Choice.{when}
 use Rattle.text.specs.Text.{is_digit, decimal}
 use Rattle.script.specs.Written.{AtLineEnd, Numbered, Starts, Capital}
 use Rattle.script.specs.declared.cursor.Cursor.{Cursor}
-use Rattle.script.specs.declared.cursor.Letter.{Letter}
-use Rattle.script.specs.declared.cursor.Letter.TheVariants.{Is as is-letter, Nothing as no-letter}
-use Rattle.script.specs.declared.cursor.Number.{Number}
-use Rattle.script.specs.declared.cursor.Number.TheVariants.{Is as is_number, Nothing as no_number}
-use Rattle.script.specs.declared.cursor.LineEnd.{LineEnd}
-use Rattle.script.specs.declared.cursor.LineEnd.TheVariants.{Is as is-end, Nothing as no_end}
 use Rattle.script.specs.declared.cursor.Digits.{Digits}
-use Rattle.script.specs.declared.numbers.Count.{Count}
-use Rattle.script.specs.declared.numbers.Count.TheVariants.{Are, Malformed}
 
 -- ---- a letter
 
@@ -23,9 +15,9 @@ pub record LetterIs (line : List ℕ) (at letter : ℕ) (after : Cursor) : Type 
   pub inside : after.at ≤ length line
 
 -- a capital letter and the place after it, or that none stands there
-unfoldable pub LetterAt : List ℕ → ℕ → Letter → Type 0
-LetterAt line at (is-letter b after) = LetterIs line at b after
-LetterAt line at no-letter = (b : ℕ) (rest : List ℕ) → Capital b → drop at line ≡ b ∷ rest → ⊥
+unfoldable pub LetterAt : List ℕ → ℕ → Option (ℕ × Cursor) → Type 0
+LetterAt line at (Some (b, after)) = LetterIs line at b after
+LetterAt line at None = (b : ℕ) (rest : List ℕ) → Capital b → drop at line ≡ b ∷ rest → ⊥
 
 -- ---- a number
 
@@ -35,23 +27,30 @@ pub record NumberIs (line : List ℕ) (at n : ℕ) (after : Cursor) : Type 0 whe
   pub inside : after.at ≤ length line
 
 -- a number after a single space and the place after it, or that none stands there
-unfoldable pub NumberAt : List ℕ → ℕ → Number → Type 0
-NumberAt line at (is_number n after) = NumberIs line at n after
-NumberAt line at no_number = (n : ℕ) (rest : List ℕ) → Starts (drop at line) n rest → ⊥
+unfoldable pub NumberAt : List ℕ → ℕ → Option (ℕ × Cursor) → Type 0
+NumberAt line at (Some (n, after)) = NumberIs line at n after
+NumberAt line at None = (n : ℕ) (rest : List ℕ) → Starts (drop at line) n rest → ⊥
 
--- the value of the digit at a place, 10 where none stands there
-unfoldable pub digit_at : List ℕ → ℕ → ℕ
-digit_at line at = when (is_digit (get_or line at 0)) (get_or line at 0 - 48) 10
+-- the value of the digit at a place, if one stands there
+unfoldable pub digit_at : List ℕ → ℕ → Option ℕ
+digit_at line at = when (is_digit (get_or line at 0)) (Some (get_or line at 0 - 48)) None
+
+-- the digits with one after them, if there is one
+unfoldable pub with_digit : Digits → Option ℕ → Digits
+with_digit d (Some x) = record { value = d.value * 10 + x; at = d.at + 1 }
+with_digit d None = d
 
 -- the digits with the one after them, if there is one
-unfoldable pub more : List ℕ → Digits → Digits
-more line d =
-    let x = digit_at line d.at in
-    when (leb x 9) (record { value = d.value * 10 + x; at = d.at + 1 }) d
+abbrev pub more : List ℕ → Digits → Digits
+more line d = with_digit d (digit_at line d.at)
 
--- the number that the digits are, unless one more follows them
-unfoldable pub ended : List ℕ → Digits → Number
-ended line d = when (leb (digit_at line d.at) 9) no_number (is_number d.value (record { at = d.at }))
+-- the number that the digits are and the place after it, unless one more follows them
+unfoldable pub unless_digit : Digits → Option ℕ → Option (ℕ × Cursor)
+unless_digit d (Some x) = None
+unless_digit d None = Some (d.value, record { at = d.at })
+
+abbrev pub ended : List ℕ → Digits → Option (ℕ × Cursor)
+ended line d = unless_digit d (digit_at line d.at)
 
 -- ---- the line's end
 
@@ -60,9 +59,9 @@ pub record LineEndIs (line : List ℕ) (at : ℕ) (after : Cursor) : Type 0 wher
   pub past : drop after.at line ≡ drop 1 (drop at line)
 
 -- the place after the newline, or the same place where the text is over without one; or that the line goes on
-unfoldable pub LineEndAt : List ℕ → ℕ → LineEnd → Type 0
-LineEndAt line at (is-end after) = LineEndIs line at after
-LineEndAt line at no_end = AtLineEnd (drop at line) → ⊥
+unfoldable pub LineEndAt : List ℕ → ℕ → Option Cursor → Type 0
+LineEndAt line at (Some after) = LineEndIs line at after
+LineEndAt line at None = AtLineEnd (drop at line) → ⊥
 
 -- ---- numbers up to the line's end
 
@@ -74,6 +73,6 @@ pub record NumbersAre (line : List ℕ) (at : ℕ) (out : List ℕ) (n : ℕ) (a
 
 -- how many there are, and they are in the buffer, with the place after the line's end; or the text is not that of numbers for which
 -- the buffer has room
-unfoldable pub NumbersAt : List ℕ → ℕ → List ℕ → Count → Type 0
-NumbersAt line at out (Are n after) = NumbersAre line at out n after
-NumbersAt line at out Malformed = (ns rest : List ℕ) → Numbered (drop at line) ns rest → length ns ≤ length out → ⊥
+unfoldable pub NumbersAt : List ℕ → ℕ → List ℕ → Option (ℕ × Cursor) → Type 0
+NumbersAt line at out (Some (n, after)) = NumbersAre line at out n after
+NumbersAt line at out None = (ns rest : List ℕ) → Numbered (drop at line) ns rest → length ns ≤ length out → ⊥

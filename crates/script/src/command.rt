@@ -1,10 +1,10 @@
 // A line read to the command that it asks for.
-ghost use Rattle.std.specs.Prelude.{◌≡◌, ◌++◌, ℕ, ◌≤◌, ◌<◌, eqb, length, get_or, take, drop};
-ghost use Rattle.laws.specs.Choice.{when};
+ghost use Rattle.std.specs.Prelude.{◌≡◌, ◌++◌, ℕ, ◌≤◌, ◌<◌, Some, eqb, length, get_or, drop};
+ghost use Rattle.std.specs.Bool.{then_some};
 ghost use Rattle.script.specs.Command.{bytes, symbols_of, Tells, Reads};
 
-use super::cursor::{Cursor, Letter};
-use super::numbers::{Count, numbers};
+use super::cursor::Cursor;
+use super::numbers::numbers;
 
 // What a line asks for. New has the sizes of its three pools; Add and Delete have how many symbols stand on the right, beside
 // the left one; Parse has how many tokens the line has. The symbols themselves stand in the buffer that `read` is lent.
@@ -17,131 +17,98 @@ pub enum Command {
     Collect,
     Restart,
     List,
-    Malformed,
 }
 
 impl Command {
     // How many symbols the buffer has for it, a left one counted.
     pub fn symbols(self) -> usize
-        requires { symbols_of self ≤ 256 }
-        ensures { result ≡ symbols_of self }
+        requires { symbols_of (Some self) ≤ 256 }
+        ensures { result ≡ symbols_of (Some self) }
     {
         match self {
-            Command::New(_, _, _) => 0,
-            Command::Add(n) => n + 1,
-            Command::Delete(n) => n + 1,
+            Command::Add(n) | Command::Delete(n) => n + 1,
             Command::Parse(n) => n,
-            Command::Collect => 0,
-            Command::Restart => 0,
-            Command::List => 0,
-            Command::Malformed => 0,
+            Command::New(_, _, _) | Command::Collect | Command::Restart | Command::List => 0,
         }
     }
 }
 
-// Reads a line, with its newline if it has one: any bytes, and any number of them. The symbols go into the lent buffer, the
-// left one first.
-pub fn read(line: &[u8], symbols: &mut [u8]) -> Command
+// Reads a line, with its newline if it has one: any bytes, and any number of them. None: it is malformed. The symbols go into
+// the lent buffer, the left one first.
+pub fn read(line: &[u8], symbols: &mut [u8]) -> Option<Command>
     requires { 256 ≤ length symbols.old }
     ensures { Reads line.now symbols.old symbols.new result }
 {
-    let Letter::Is(letter, after) = Cursor::START.letter(line) else {
-        return Command::Malformed;
-    };
+    let (letter, after) = Cursor::START.letter(line)?;
     let mut ns = [0u16; 256];
-    let Count::Are(n, end) = numbers(after, line, &mut ns) else {
-        return Command::Malformed;
-    };
+    let (n, end) = numbers(after, line, &mut ns)?;
     if end.at < line.len() {
-        return Command::Malformed; // more than a line
+        return None; // more than a line
     }
-    let command = meaning(letter, &ns[..n]);
-    copy(&ns, command.symbols(), symbols);
-    command
+    let command = meaning(letter, &ns[..n])?;
+    copy(&ns[..command.symbols()], symbols);
+    Some(command)
 }
 
-// What a letter and its numbers mean.
-fn meaning(letter: u8, ns: &[u16]) -> Command
+// What a letter and its numbers mean, if anything.
+fn meaning(letter: u8, ns: &[u16]) -> Option<Command>
     ensures { Tells letter ns.now result }
 {
     let n = ns.len();
     match letter {
         b'N' => new(ns),
-        b'A' => {
-            if n == 0 {
-                return Command::Malformed;
-            }
-            of_symbols(ns, Command::Add(n - 1))
-        }
-        b'D' => {
-            if n == 0 {
-                return Command::Malformed;
-            }
-            of_symbols(ns, Command::Delete(n - 1))
-        }
+        b'A' => of_symbols(ns, Command::Add(n.checked_sub(1)?)),
+        b'D' => of_symbols(ns, Command::Delete(n.checked_sub(1)?)),
         b'P' => of_symbols(ns, Command::Parse(n)),
         b'G' => alone(ns, Command::Collect),
         b'R' => alone(ns, Command::Restart),
         b'L' => alone(ns, Command::List),
-        _ => Command::Malformed,
+        _ => None,
     }
 }
 
 // N alone, or with three sizes.
-fn new(ns: &[u16]) -> Command
+fn new(ns: &[u16]) -> Option<Command>
     ensures { Tells 78 ns.now result }
 {
-    if ns.len() == 0 {
-        return Command::New(128, 128, 1024);
+    match ns {
+        [] => Some(Command::New(128, 128, 1024)),
+        [sets, rules, links] => Some(Command::New(
+            *sets as usize,
+            *rules as usize,
+            *links as usize,
+        )),
+        _ => None,
     }
-    if ns.len() != 3 {
-        return Command::Malformed;
-    }
-    Command::New(ns[0] as usize, ns[1] as usize, ns[2] as usize)
 }
 
 // The command, where each number is a byte.
-fn of_symbols(ns: &[u16], command: Command) -> Command
-    ensures { result ≡ when (bytes ns.now) command Command.Malformed }
+fn of_symbols(ns: &[u16], command: Command) -> Option<Command>
+    ensures { result ≡ then_some (bytes ns.now) command }
 {
-    if all_bytes(ns) {
-        return command;
-    }
-    Command::Malformed
-}
-
-// The command, where there is no number.
-fn alone(ns: &[u16], command: Command) -> Command
-    ensures { result ≡ when (eqb (length ns.now) 0) command Command.Malformed }
-{
-    if ns.len() == 0 {
-        return command;
-    }
-    Command::Malformed
+    all_bytes(ns).then_some(command)
 }
 
 fn all_bytes(ns: &[u16]) -> bool
     ensures { result ≡ bytes ns.now }
 {
-    let mut i: usize = 0;
-    while i < ns.len() {
-        if 255 < ns[i] {
-            return false;
-        }
-        i += 1;
-    }
-    true
+    ns.iter().all(|&n| n <= 255)
 }
 
-// Copies the first n numbers, which are bytes, into the buffer.
-fn copy(ns: &[u16], n: usize, symbols: &mut [u8])
-    requires n_in_bounds { (n ≤ length ns.now) × (n ≤ length symbols.old) }
-    requires by_index { (k : ℕ) → k < n → get_or ns.now k 0 ≤ 255 }
-    ensures { symbols.new ≡ take n ns.now ++ drop n symbols.old }
+// The command, where there is no number.
+fn alone(ns: &[u16], command: Command) -> Option<Command>
+    ensures { result ≡ then_some (eqb (length ns.now) 0) command }
 {
-    let mut i: usize = 0;
-    while i < n {
-        symbols[i] = ns[i] as u8;
-        i += 1;
+    ns.is_empty().then_some(command)
+}
+
+// Copies numbers, which are bytes, into the buffer.
+fn copy(ns: &[u16], symbols: &mut [u8])
+    requires n_in_bounds { length ns.now ≤ length symbols.old }
+    requires by_index { (k : ℕ) → k < length ns.now → get_or ns.now k 0 ≤ 255 }
+    ensures { symbols.new ≡ ns.now ++ drop (length ns.now) symbols.old }
+{
+    for (i, &n) in ns.iter().enumerate() {
+        symbols[i] = n as u8;
     }
 }

@@ -1,5 +1,5 @@
 // The script cursor: a place in a line, and the steps that read on from it.
-ghost use Rattle.std.specs.Prelude.{◌≡◌, ◌<◌, drop};
+ghost use Rattle.std.specs.Prelude.{◌≡◌, ◌<◌};
 ghost use Rattle.script.specs.Reading.{LetterAt, NumberAt, LineEndAt, digit_at, more, ended};
 
 // A place in a line.
@@ -8,63 +8,30 @@ pub struct Cursor {
     pub at: usize,
 }
 
-// The answer to `letter`: the letter and the place after it.
-#[derive(Clone, Copy)]
-pub enum Letter {
-    Is(u8, Cursor),
-    Nothing,
-}
-
-// The answer to `number`: the number and the place after it.
-#[derive(Clone, Copy)]
-pub enum Number {
-    Is(usize, Cursor),
-    Nothing,
-}
-
-// The answer to `line_end`: the place after it.
-#[derive(Clone, Copy)]
-pub enum LineEnd {
-    Is(Cursor),
-    Nothing,
-}
-
 impl Cursor {
     pub const START: Cursor = Cursor { at: 0 };
 
-    // Reads a capital letter.
-    pub fn letter(self, line: &[u8]) -> Letter
+    // Reads a capital letter: the letter, and the place after it.
+    pub fn letter(self, line: &[u8]) -> Option<(u8, Cursor)>
         ensures { LetterAt line.now self.at result }
     {
         let at = self.at;
-        if line.len() <= at {
-            return Letter::Nothing;
+        let &letter = line.get(at)?;
+        if !letter.is_ascii_uppercase() {
+            return None;
         }
-        let b = line[at];
-        if b < b'A' {
-            return Letter::Nothing;
-        }
-        if b'Z' < b {
-            return Letter::Nothing;
-        }
-        Letter::Is(b, Cursor { at: at + 1 })
+        Some((letter, Cursor { at: at + 1 }))
     }
 
-    // Reads a single space and a decimal number, 0 to 9999 without leading zeros.
-    pub fn number(self, line: &[u8]) -> Number
+    // Reads a single space and a decimal number, 0 to 9999 without leading zeros: the number, and the place after it.
+    pub fn number(self, line: &[u8]) -> Option<(usize, Cursor)>
         ensures { NumberAt line.now self.at result }
     {
         let at = self.at;
-        if line.len() <= at {
-            return Number::Nothing;
+        if *line.get(at)? != b' ' {
+            return None;
         }
-        if line[at] != b' ' {
-            return Number::Nothing;
-        }
-        let first = digit(line, at + 1);
-        if 9 < first {
-            return Number::Nothing;
-        }
+        let first = digit(line, at + 1)?;
         let one = Digits {
             value: first,
             at: at + 2,
@@ -75,18 +42,16 @@ impl Cursor {
         one.more(line).more(line).more(line).ended(line)
     }
 
-    // Reads the line's end: a newline, or nothing where the text is over. "The last may lack it."
-    pub fn line_end(self, line: &[u8]) -> LineEnd
+    // Reads the line's end, to the place after it: a newline, or nothing where the text is over. "The last may lack it."
+    pub fn line_end(self, line: &[u8]) -> Option<Cursor>
         ensures { LineEndAt line.now self.at result }
     {
         let at = self.at;
-        if line.len() <= at {
-            return LineEnd::Is(Cursor { at });
+        match line.get(at) {
+            None => Some(self),
+            Some(b'\n') => Some(Cursor { at: at + 1 }),
+            Some(_) => None,
         }
-        if line[at] != b'\n' {
-            return LineEnd::Nothing;
-        }
-        LineEnd::Is(Cursor { at: at + 1 })
     }
 }
 
@@ -103,42 +68,33 @@ impl Digits {
         requires { self.value < 1000 }
         ensures { result ≡ more line.now self }
     {
-        let at = self.at;
-        let d = digit(line, at);
-        if 9 < d {
-            return self;
-        }
-        Digits {
-            value: self.value * 10 + d,
-            at: at + 1,
+        match digit(line, self.at) {
+            Some(d) => Digits {
+                value: self.value * 10 + d,
+                at: self.at + 1,
+            },
+            None => self,
         }
     }
 
-    // The number that they are, unless a digit follows.
-    fn ended(self, line: &[u8]) -> Number
+    // The number that they are and the place after it, unless a digit follows.
+    fn ended(self, line: &[u8]) -> Option<(usize, Cursor)>
         ensures { result ≡ ended line.now self }
     {
-        let at = self.at;
-        if digit(line, at) <= 9 {
-            return Number::Nothing;
+        match digit(line, self.at) {
+            Some(_) => None,
+            None => Some((self.value, Cursor { at: self.at })),
         }
-        Number::Is(self.value, Cursor { at })
     }
 }
 
-// The value of the digit at a place, 10 where none stands there.
-fn digit(line: &[u8], at: usize) -> usize
+// The value of the digit at a place, if one stands there.
+fn digit(line: &[u8], at: usize) -> Option<usize>
     ensures { result ≡ digit_at line.now at }
 {
-    if line.len() <= at {
-        return 10;
+    let &b = line.get(at)?;
+    if !b.is_ascii_digit() {
+        return None;
     }
-    let b = line[at];
-    if b < b'0' {
-        return 10;
-    }
-    if b'9' < b {
-        return 10;
-    }
-    (b - b'0') as usize
+    Some((b - b'0') as usize)
 }

@@ -18,4 +18,4 @@ mod cursor; // cursor.rt: letter, number and line end
 mod numbers; // numbers.rt: the numbers of a line
 
 pub use command::{Command, read};
-pub use cursor::{Cursor, Letter, LineEnd, Number};
+pub use cursor::Cursor;

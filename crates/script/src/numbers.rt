@@ -1,33 +1,21 @@
 // The numbers of a line, up to its end.
 ghost use Rattle.script.specs.Reading.{NumbersAt};
 
-use super::cursor::{Cursor, LineEnd, Number};
+use super::cursor::Cursor;
 
-// The answer to `numbers`: how many there are, and the place after the line's end.
-#[derive(Clone, Copy)]
-pub enum Count {
-    Are(usize, Cursor),
-    Malformed,
-}
-
-// Reads numbers up to the line's end, as many as `out` has room for.
-pub fn numbers(start: Cursor, line: &[u8], out: &mut [u16]) -> Count
+// Reads numbers up to the line's end, as many as `out` has room for: how many there are, and the place after the line's end.
+pub fn numbers(start: Cursor, line: &[u8], out: &mut [u16]) -> Option<(usize, Cursor)>
     ensures { NumbersAt line.now start.at out.new result }
 {
     let mut c = start;
-    let mut n: usize = 0;
-    loop {
-        if let LineEnd::Is(after) = c.line_end(line) {
-            return Count::Are(n, after);
+    for n in 0..out.len() {
+        if let Some(after) = c.line_end(line) {
+            return Some((n, after));
         }
-        if out.len() <= n {
-            return Count::Malformed;
-        }
-        let Number::Is(x, after) = c.number(line) else {
-            return Count::Malformed;
-        };
+        let (x, after) = c.number(line)?;
         out[n] = x as u16;
-        n += 1;
         c = after;
     }
+    let after = c.line_end(line)?;
+    Some((out.len(), after))
 }

@@ -3,20 +3,14 @@ use native.Mathlib.Omega.{arith}
 use Rattle.script.proofs.Telling.{new-alone, new-sizes, new_miscounted}
 use Rattle.script.proofs.command.new.Goals as goal
 
-pub returns-then-ns-eq0 : goal.returns-then-ns-eq0
-returns-then-ns-eq0 c = new-alone _ c.if-ns-eq0.true
+pub returns-in-empty : goal.returns-in-empty
+returns-in-empty c = new-alone _ (omega arith)
 
-pub returns-then-ns-ne3 : goal.returns-then-ns-ne3
-returns-then-ns-ne3 c = new_miscounted _ c.if-ns-eq0.false c.if-ns-ne3.true
+pub returns-in-len3 : goal.returns-in-len3
+returns-in-len3 c = new-sizes _ (omega arith)
 
-pub overflow_cast-result : goal.overflow_cast-result
-overflow_cast-result c = omega (arith, c.type_inv.ns 0)
+pub returns-in_default : goal.returns-in_default
+returns-in_default c = new_miscounted _ (λ e. omega arith) (λ e. omega arith)
 
-pub overflow_cast-result-2 : goal.overflow_cast-result-2
-overflow_cast-result-2 c = omega (arith, c.type_inv.ns 1)
-
-pub overflow_cast-result-3 : goal.overflow_cast-result-3
-overflow_cast-result-3 c = omega (arith, c.type_inv.ns 2)
-
-pub returns : goal.returns
-returns c = new-sizes _ c.if-ns-ne3.false
+pub returns-in_default-2 : goal.returns-in_default-2
+returns-in_default-2 c = new_miscounted _ (λ e. omega arith) (λ e. omega arith)

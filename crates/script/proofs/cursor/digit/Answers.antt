@@ -1,17 +1,13 @@
 -- `digit` meets its contract, by the byte at the place. Assumes nothing.
-use mathlib.Core.Path.{sym}
-use mathlib.Core.Logic.{inl, inr}
-use Rattle.script.proofs.Reading.{no_digit, digit-past, digit-none, digit-here}
+use mathlib.Core.Path.{◌∙◌}
+use Rattle.script.proofs.Reading.{digit-past, digit-none, digit-here}
 use Rattle.script.proofs.cursor.digit.Goals as goal
 
-pub returns-then-line-at : goal.returns-then-line-at
-returns-then-line-at c = sym (digit-past _ _ c.if-line-at.true)
+pub returns-in_err-b : goal.returns-in_err-b
+returns-in_err-b c = c.from_residual.ensures ∙ digit-past _ _ c.in_err-b.ensures.lookup.3
 
-pub returns-then-b-lt48 : goal.returns-then-b-lt48
-returns-then-b-lt48 c = sym (digit-none _ _ (no_digit _ (inl c.if-b-lt48.true)))
-
-pub returns-then-b-gt57 : goal.returns-then-b-gt57
-returns-then-b-gt57 c = sym (digit-none _ _ (no_digit _ (inr c.if-b-gt57.true)))
+pub returns-then-not-is_ascii_digit : goal.returns-then-not-is_ascii_digit
+returns-then-not-is_ascii_digit c = digit-none _ _ (c.in_ok-b.ensures.lookup.3.1 0) c.if-not-is_ascii_digit.ensures.cases
 
 pub returns : goal.returns
-returns c = sym (digit-here _ _ c.if-b-lt48.false c.if-b-gt57.false)
+returns c = digit-here _ _ (c.in_ok-b.ensures.lookup.3.1 0) c.if-not-is_ascii_digit.ensures.cases

@@ -1,9 +1,12 @@
 -- `Digits::ended` meets its contract. Assumes nothing.
-use Rattle.script.proofs.Reading.{not_ended, ended-there}
+use mathlib.Core.Path.{ap}
+use Rattle.script.specs.Reading.{unless_digit}
 use Rattle.script.proofs.cursor.Digits.ended.Goals as goal
 
-pub returns-then-digit-le9 : goal.returns-then-digit-le9
-returns-then-digit-le9 c = not_ended _ _ c.digit.ensures c.if-digit-le9.true
+pub returns-in-Some : goal.returns-in-Some
+unfolding unless_digit
+returns-in-Some c = ap (unless_digit c.args.self) c.in-Some.ensures
 
-pub returns : goal.returns
-returns c = ended-there _ _ c.digit.ensures c.if-digit-le9.false
+pub returns-in-None : goal.returns-in-None
+unfolding unless_digit
+returns-in-None c = ap (unless_digit c.args.self) c.in-None.ensures

@@ -1,13 +1,20 @@
 -- `Digits::more` meets its contract. Assumes nothing.
+use mathlib.Core.Path.{sym, ap}
 use native.Mathlib.Omega.{arith}
-use Rattle.script.proofs.Reading.{digit-inside, more-none, more-one}
+use Rattle.script.specs.Reading.{with_digit}
+use Rattle.script.proofs.Reading.{digit-there}
 use Rattle.script.proofs.cursor.Digits.more.Goals as goal
 
-pub returns-then-d-gt9 : goal.returns-then-d-gt9
-returns-then-d-gt9 c = more-none _ _ c.digit-d.ensures c.if-d-gt9.true
+pub overflow_add-result : goal.overflow_add-result
+overflow_add-result c = let t = digit-there (sym c.in-Some.ensures) in omega (arith, c.requires, t.small)
 
-pub overflow_add-result-2 : goal.overflow_add-result-2
-overflow_add-result-2 c = omega (arith, digit-inside _ _ c.digit-d.ensures c.if-d-gt9.false)
+pub overflow_add-result-in-Some : goal.overflow_add-result-in-Some
+overflow_add-result-in-Some c = let t = digit-there (sym c.in-Some.ensures) in omega (arith, t.inside)
 
-pub returns : goal.returns
-returns c = more-one _ _ c.digit-d.ensures c.if-d-gt9.false
+pub returns-in-Some : goal.returns-in-Some
+unfolding with_digit
+returns-in-Some c = ap (with_digit c.args.self) c.in-Some.ensures
+
+pub returns-in-None : goal.returns-in-None
+unfolding with_digit
+returns-in-None c = ap (with_digit c.args.self) c.in-None.ensures
