@@ -1,6 +1,5 @@
 -- What the contracts on lent tables cite.
 pub mod Layout
-pub mod Lent
 pub mod Write
 pub mod Start
 pub mod Laid

@@ -24,13 +24,11 @@
 
 mod bytes; // bytes.rt: numbers made zero
 mod cells; // cells.rt: marks and targets
-mod lent; // lent.rt: the three slices
 mod rules; // rules.rt: sizes and rules
 mod start; // start.rt: the start set's kernel
 
 pub use bytes::clear;
 pub use cells::{ACCEPTING, EXPANDED, ROW, UNEXPANDED, mark, target};
-pub use lent::{Shown, Table};
 pub use rules::{
     CURRENT, FREE, LEFT, LENGTH, MOST_RULES, MOST_SETS, RIGHT, RULE, SIZES, WITHDRAWN, left, len,
     put_rule, rule, rules_in, sets_in, state,
