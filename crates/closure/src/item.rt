@@ -41,5 +41,5 @@ pub fn is_current_rule_of(rules: &[u8], b: Symbol, r: usize) -> bool
     requires { FormedRules rules.now × (r < rules_in rules.now) }
     ensures { result ≡ current_rule_of (view_rules rules.now) b.0 r }
 {
-    rules[table::SIZES + r * table::RULE] == table::CURRENT && left(rules, r).0 == b.0
+    rules[table::SIZES + r * table::RULE] == table::CURRENT && left(rules, r) == b
 }

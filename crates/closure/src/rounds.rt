@@ -12,7 +12,6 @@ ghost use Rattle.closure.specs.Item.{items_in};
 ghost use Rattle.closure.specs.UnderWay.{put_rule, UnderWay, Grew, MetAfter, MetBelow};
 
 use super::item::{after, is_current_rule_of};
-use kernels::Found;
 use symbols::Symbol;
 
 // The closure of a kernel. "Until nothing is new": each round but the last adds an item.
@@ -39,11 +38,9 @@ fn round(rules: &[u8], closure: &mut [u64; 16], met: &mut [u64; 2])
     ensures grew { Grew rules.now closure.old met.old closure.new met.new }
     ensures all { MetBelow rules.now closure.old met.new 1024 }
 {
+    // no `Bits`: items are added while it walks, and those ahead are met in the same round
     let mut from = 0;
-    loop {
-        let Found::At(item) = kernels::next(closure, 0, kernels::KERNEL_WORDS, from) else {
-            return;
-        };
+    while let Some(item) = kernels::next(closure, 0, kernels::KERNEL_WORDS, from) {
         meet(rules, closure, met, item);
         from = item + 1;
     }

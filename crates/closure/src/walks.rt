@@ -7,7 +7,7 @@ ghost use Rattle.closure.specs.Item.{items_in};
 ghost use Rattle.closure.specs.Walk.{put_after, put_moved, put_reduction, accepts_too, HoldsSymbols, HoldsCompleted};
 
 use super::item::{after, ends, left};
-use kernels::Found;
+use kernels::Bits;
 
 // "Each symbol X after a dot in the closure": a bit for each, 1 to 127.
 pub fn symbols_after(rules: &[u8], closure: [u64; 16]) -> [u64; 2]
@@ -15,14 +15,10 @@ pub fn symbols_after(rules: &[u8], closure: [u64; 16]) -> [u64; 2]
     ensures { HoldsSymbols result (view_rules rules.now) (items_in rules.now closure) }
 {
     let mut symbols = [0u64; 2];
-    let mut from = 0;
-    loop {
-        let Found::At(item) = kernels::next(&closure, 0, kernels::KERNEL_WORDS, from) else {
-            return symbols;
-        };
+    for item in Bits::of(&closure, 0, kernels::KERNEL_WORDS) {
         put_after(rules, item, &mut symbols);
-        from = item + 1;
     }
+    symbols
 }
 
 // Puts in the symbol after the item's dot, if there is one.
@@ -42,14 +38,10 @@ pub fn moved(rules: &[u8], closure: [u64; 16], x: usize) -> [u64; 16]
     ensures { HoldsKernel (rules_in rules.now) result 0 (moved (view_rules rules.now) (items_in rules.now closure) x) }
 {
     let mut kernel = [0u64; 16];
-    let mut from = 0;
-    loop {
-        let Found::At(item) = kernels::next(&closure, 0, kernels::KERNEL_WORDS, from) else {
-            return kernel;
-        };
+    for item in Bits::of(&closure, 0, kernels::KERNEL_WORDS) {
         put_moved(rules, item, x, &mut kernel);
-        from = item + 1;
     }
+    kernel
 }
 
 // Puts in the item with its dot moved over x, if x stands after it.
@@ -78,14 +70,10 @@ pub fn completed_items(rules: &[u8], closure: [u64; 16]) -> Completed
         reductions: [0; 2],
         accepts: false,
     };
-    let mut from = 0;
-    loop {
-        let Found::At(item) = kernels::next(&closure, 0, kernels::KERNEL_WORDS, from) else {
-            return completed;
-        };
+    for item in Bits::of(&closure, 0, kernels::KERNEL_WORDS) {
         completed.put(rules, item);
-        from = item + 1;
     }
+    completed
 }
 
 impl Completed {

@@ -12,5 +12,5 @@ loop-item-init c = (search rules, grew_none c.requires.1, λ i l. absurd (not-su
 
 pub loop-item-preserved : goal.loop-item-preserved
 loop-item-preserved c =
-    let least = next-at c.loop-item.closure 0 {n = 16} {from = c.loop-item.from} _ c.next.ensures c.in-At.is in
+    let least = next-at c.loop-item.closure 0 {n = 16} {from = c.loop-item.from} _ c.next.ensures c.in-Some.is in
     (omega (arith, least.inside), grew-more c.loop-item.invariant.1 c.meet.ensures.grew, met_turn c.loop-item.invariant.1 c.loop-item.invariant.2 least c.meet.ensures.grew c.meet.ensures.met)

@@ -1,17 +1,17 @@
--- `closure::walks::symbols_after` meets its contract. The invariant: the words hold the symbols after the items below `from`. Assumes nothing.
-use mathlib.Core.Path.{refl}
+-- `closure::walks::symbols_after` meets its contract. Assumes nothing.
+use Rattle.std.proofs.Common.{refl}
 use Rattle.kernels.proofs.Puts.{has-zero}
-use Rattle.kernels.proofs.KernelWalk.{walk_start, walk_turn, walk_end}
+use Rattle.kernels.proofs.KernelWalk.{walking_start, walking_turn, walking_end}
 use Rattle.closure.proofs.Walk.{holds-symbols}
 use Rattle.closure.proofs.walks.symbols_after.Goals as goal
 
 pub loop-item-init : goal.loop-item-init
-loop-item-init c = walk_start
-
-pub returns-in_default : goal.returns-in_default
-returns-in_default c =
-    holds-symbols c.args.rules.now c.args.closure c.requires.0 c.requires.1 _ (has-zero 2) refl (walk_end c.loop-item.invariant c.in_default.is c.next.ensures)
+loop-item-init c =
+    rw c.into_iter-item-iterator.ensures.into_iter_gives (walking_start c.of-item-items.ensures.over c.of-item-items.ensures.start)
 
 pub loop-item-preserved : goal.loop-item-preserved
-loop-item-preserved c =
-    walk_turn c.loop-item.invariant c.in-At.is c.next.ensures c.put_after.ensures
+loop-item-preserved c = walking_turn c.loop-item.invariant c.in-Some.ensures.steps c.put_after.ensures
+
+pub returns : goal.returns
+returns c =
+    holds-symbols c.args.rules.now c.args.closure c.requires.0 c.requires.1 _ (has-zero 2) refl (walking_end c.loop-item.invariant c.in-None.ensures.steps)
