@@ -1,60 +1,74 @@
 // The line that is printed for an answer.
-ghost use Rattle.std.specs.Prelude.{◌≡◌, ℕ, [], ◌∷◌, ◌+◌, ◌*◌, ◌≤◌, ◌<◌, length, get_or};
+ghost use Rattle.std.specs.Prelude.{ℕ, [], ◌∷◌, ◌+◌, ◌*◌, ◌≤◌, ◌<◌, length, get_or};
+ghost use Rattle.symbols.specs.Answer.{refusal_number, number_of, answer_of, number_with, answer_of_parse, links_with};
 ghost use Rattle.text.specs.Puts.{Adds};
-ghost use Rattle.replies.specs.Printed.{line_of, answer_line, change_line, past_checks, parse_line, collect_line};
+ghost use Rattle.replies.specs.Printed.{line_of, answer_line, change_line, parse_line, collect_line};
 
+use symbols::{Refusal, Verdict};
 use text::Text;
 
-// Puts the line of an answer alone: New's, a refusal's, a malformed line's.
-pub fn put_answer(answer: usize, text: &mut Text)
-    requires { (answer ≤ 9999) × (text.old.end + 5 ≤ length text.old.bytes.now) }
-    ensures { Adds text.old text.new (answer_line answer) }
-{
-    put_line(answer, &[], text);
-}
+// 01's numbers of the answers that are no refusal.
+const DONE: usize = 0;
 
-// Puts the line of Add and Delete: the rule's number follows on 0.
-pub fn put_change(answer: usize, rule: usize, text: &mut Text)
-    requires { (answer ≤ 9999) × (rule ≤ 9999) × (text.old.end + 10 ≤ length text.old.bytes.now) }
-    ensures { Adds text.old text.new (change_line answer rule) }
+const ACCEPT: usize = 1;
+
+const REJECT: usize = 2;
+
+// Puts the line of an answer alone: New's, a malformed line's.
+pub fn put_done(done: Result<(), Refusal>, text: &mut Text)
+    requires { text.old.end + 5 ≤ length text.old.bytes.now }
+    ensures { Adds text.old text.new (answer_line (number_of (answer_of done))) }
 {
-    if answer == 0 {
-        put_line(answer, &[rule], text);
-    } else {
-        put_answer(answer, text);
+    match done {
+        Ok(()) => put_line(DONE, &[], text),
+        Err(refusal) => put_refusal(refusal, text),
     }
 }
 
-// Puts the line of Parse: links and sets in use follow on a verdict, and on 20 and 21.
-pub fn put_parse(answer: usize, links: usize, sets: usize, text: &mut Text)
-    requires { (answer ≤ 9999) × (links ≤ 9999) × (sets ≤ 9999) × (text.old.end + 15 ≤ length text.old.bytes.now) }
-    ensures { Adds text.old text.new (parse_line answer links sets) }
+// Puts the line of Add and Delete: the rule's number follows where it is done.
+pub fn put_change(changed: Result<usize, Refusal>, text: &mut Text)
+    requires { (number_with changed ≤ 9999) × (text.old.end + 10 ≤ length text.old.bytes.now) }
+    ensures { Adds text.old text.new (change_line (number_of (answer_of changed)) (number_with changed)) }
 {
-    if past_checks(answer) {
-        put_line(answer, &[links, sets], text);
-    } else {
-        put_answer(answer, text);
+    match changed {
+        Ok(rule) => put_line(DONE, &[rule], text),
+        Err(refusal) => put_refusal(refusal, text),
     }
 }
 
-// Whether Parse got past its checks: a verdict, NO-SETS or NO-LINKS.
-#[tactic(auto, using(crate::proofs::Lines::shown_after, crate::proofs::Lines::shown_before))]
-fn past_checks(answer: usize) -> bool
-    ensures { result ≡ past_checks answer }
+// Puts the line of Parse: links and sets in use follow on a verdict, "also on 20 and 21".
+pub fn put_parse(read: Result<Verdict, Refusal>, sets: usize, text: &mut Text)
+    requires { (links_with read ≤ 9999) × (sets ≤ 9999) × (text.old.end + 15 ≤ length text.old.bytes.now) }
+    ensures { Adds text.old text.new (parse_line (number_of (answer_of_parse read)) (links_with read) sets) }
 {
-    matches!(answer, 1 | 2 | 20 | 21)
+    match read {
+        Ok(verdict) => {
+            let answer = if verdict.accepts { ACCEPT } else { REJECT };
+            put_line(answer, &[verdict.links, sets], text);
+        }
+        Err(Refusal::NoSets) => put_line(usize::from(Refusal::NoSets.number()), &[0, sets], text),
+        Err(Refusal::NoLinks) => put_line(usize::from(Refusal::NoLinks.number()), &[0, sets], text),
+        Err(refusal) => put_refusal(refusal, text),
+    }
 }
 
-// Puts the line of Collect and Restart: the sets in use follow on 0.
-pub fn put_collect(answer: usize, sets: usize, text: &mut Text)
-    requires { (answer ≤ 9999) × (sets ≤ 9999) × (text.old.end + 10 ≤ length text.old.bytes.now) }
-    ensures { Adds text.old text.new (collect_line answer sets) }
+// Puts the line of Collect and Restart: the sets in use follow where it is done.
+pub fn put_collect(done: Result<(), Refusal>, sets: usize, text: &mut Text)
+    requires { (sets ≤ 9999) × (text.old.end + 10 ≤ length text.old.bytes.now) }
+    ensures { Adds text.old text.new (collect_line (number_of (answer_of done)) sets) }
 {
-    if answer == 0 {
-        put_line(answer, &[sets], text);
-    } else {
-        put_answer(answer, text);
+    match done {
+        Ok(()) => put_line(DONE, &[sets], text),
+        Err(refusal) => put_refusal(refusal, text),
     }
+}
+
+// "Other refusals print the number alone"
+fn put_refusal(refusal: Refusal, text: &mut Text)
+    requires { text.old.end + 5 ≤ length text.old.bytes.now }
+    ensures { Adds text.old text.new (answer_line (refusal_number refusal)) }
+{
+    put_line(usize::from(refusal.number()), &[], text);
 }
 
 // Puts a line of numbers: the first, and those that follow it.

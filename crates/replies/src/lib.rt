@@ -14,20 +14,20 @@ ghost use Rattle.text.specs.Puts.{Adds};
 ghost use Rattle.replies.specs.Reply.{text_of, Printable};
 
 use listed::put_listing;
-use symbols::Answer;
+use symbols::{Refusal, Verdict};
 use text::Text;
 
 mod answer; // answer.rt: the line of an answer
 mod listed; // listed.rt: the whole listing
 
-// What a command leaves to print: an answer alone; the answer of Add or Delete with the rule's number; that of Parse with the
-// links and the sets in use; that of Collect or Restart with the sets in use; or the listing of the table.
+// What a command leaves to print: how New went, or a line that is malformed; what Add or Delete answered, the rule's number; what
+// Parse answered, with the sets in use; how Collect or Restart went, with the sets in use; or the listing of the table.
 #[derive(Clone, Copy)]
 pub enum Reply {
-    Alone(Answer),
-    Change(Answer, usize),
-    Parse(Answer, usize, usize),
-    Collect(Answer, usize),
+    Alone(Result<(), Refusal>),
+    Change(Result<usize, Refusal>),
+    Parse(Result<Verdict, Refusal>, usize),
+    Collect(Result<(), Refusal>, usize),
     Listing,
 }
 
@@ -41,15 +41,10 @@ pub fn put(reply: Reply, rules: &[u8], cells: &[u8], words: &[u64], text: &mut T
     ensures { Adds text.old text.new (text_of (view (mem rules.now cells.now words.now)) reply) }
 {
     match reply {
-        Reply::Alone(a) => answer::put_answer(usize::from(a.number()), text),
-        Reply::Change(a, rule) => answer::put_change(usize::from(a.number()), rule, text),
-        Reply::Parse(a, links, sets) => answer::put_parse(
-            usize::from(a.number()),
-            links,
-            sets,
-            text,
-        ),
-        Reply::Collect(a, sets) => answer::put_collect(usize::from(a.number()), sets, text),
+        Reply::Alone(done) => answer::put_done(done, text),
+        Reply::Change(changed) => answer::put_change(changed, text),
+        Reply::Parse(read, sets) => answer::put_parse(read, sets, text),
+        Reply::Collect(done, sets) => answer::put_collect(done, sets, text),
         Reply::Listing => put_listing(rules, cells, words, text),
     }
 }
