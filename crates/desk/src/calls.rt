@@ -1,7 +1,6 @@
 // Each command's call, and the reply that it leaves.
-ghost use Rattle.std.specs.Prelude.{◌≡◌, List, ℕ, ◌+◌, ◌≤◌, eqb, length, get_or, take, drop};
-ghost use Rattle.laws.specs.Choice.{when};
-ghost use Rattle.symbols.specs.Answer.{number_of};
+ghost use Rattle.std.specs.Prelude.{◌≡◌, List, ℕ, ◌+◌, ◌≤◌, length, get_or, take, drop};
+ghost use Rattle.symbols.specs.Answer.{number_of, answer_of};
 ghost use Rattle.theory.specs.Calls.{add, delete, collect, restart};
 ghost use Rattle.table.specs.Layout.{mem, view};
 ghost use Rattle.replies.specs.Printed.{answer_line};
@@ -10,7 +9,7 @@ ghost use Rattle.replies.specs.Reply.{text_of, Printable};
 ghost use Rattle.desk.specs.Obeys.{here, state, Makes, Changes, Parsed, Collects, Lists};
 
 use replies::Reply;
-use symbols::Answer;
+use symbols::Refusal;
 
 // "Here at most 128, 128 and 1,024": what the desk's pools hold.
 pub const MOST_SETS: usize = 128;
@@ -19,60 +18,32 @@ pub const MOST_RULES: usize = 128;
 
 pub const MOST_LINKS: usize = 1024;
 
-// What N leaves beside the numbers of the table: its answer, and the size of the link pool from then on.
-#[derive(Clone, Copy)]
-pub struct Made {
-    pub answer: Answer,
-    pub pool: usize,
-}
-
 // N: "A refused N keeps the old table", and the old size of the link pool with it.
 pub fn new(
     rules: &mut [u8],
     cells: &mut [u8],
     words: &mut [u64],
-    pool: usize,
+    pool: &mut usize,
     sets: usize,
     places: usize,
     size: usize,
-) -> Made
-    ensures { (b : List ℕ) → Makes sets places size (state (mem rules.old cells.old words.old) b pool)
-        (state (mem rules.new cells.new words.new) b result.pool) (answer_line (number_of result.answer)) }
+) -> Result<(), Refusal>
+    ensures { (b : List ℕ) → Makes sets places size (state (mem rules.old cells.old words.old) b pool.old)
+        (state (mem rules.new cells.new words.new) b pool.new) (answer_line (number_of (answer_of result))) }
 {
     if !is_here(sets, places, size) {
-        return Made {
-            answer: Answer::BadPool,
-            pool,
-        };
+        return Err(Refusal::BadPool);
     }
-    let answer = generator::new(rules, cells, words, sets, places);
-    Made {
-        answer,
-        pool: pool_after(answer, pool, size),
-    }
+    generator::new(rules, cells, words, sets, places)?;
+    *pool = size;
+    Ok(())
 }
 
 // Whether the desk's pools hold so many sets, rules and links.
 fn is_here(sets: usize, places: usize, size: usize) -> bool
     ensures { result ≡ here sets places size }
 {
-    if MOST_SETS < sets {
-        return false;
-    }
-    if MOST_RULES < places {
-        return false;
-    }
-    size <= MOST_LINKS
-}
-
-// The size of the link pool after a New.
-fn pool_after(answer: Answer, old: usize, size: usize) -> usize
-    ensures { result ≡ when (eqb (number_of answer) 0) size old }
-{
-    if answer.number() == 0 {
-        return size;
-    }
-    old
+    sets <= MOST_SETS && places <= MOST_RULES && size <= MOST_LINKS
 }
 
 // A: the left symbol comes first, then n right ones.
@@ -84,9 +55,7 @@ pub fn add(rules: &mut [u8], cells: &mut [u8], words: &mut [u64], symbols: &[u8]
         (text_of (view (mem rules.new cells.new words.new)) result) }
 {
     let end = n + 1;
-    let changed = generator::add(rules, cells, words, symbols[0], &symbols[1..end]);
-    let answer = changed.answer;
-    Reply::Change(answer, changed.rule)
+    Reply::Change(generator::add(rules, cells, words, symbols[0], &symbols[1..end]))
 }
 
 // D: as A.
@@ -104,9 +73,7 @@ pub fn delete(
         (text_of (view (mem rules.new cells.new words.new)) result) }
 {
     let end = n + 1;
-    let changed = generator::delete(rules, cells, words, symbols[0], &symbols[1..end]);
-    let answer = changed.answer;
-    Reply::Change(answer, changed.rule)
+    Reply::Change(generator::delete(rules, cells, words, symbols[0], &symbols[1..end]))
 }
 
 // P: the line of the first n symbols, over the link pool.
@@ -125,9 +92,8 @@ pub fn parse(
         (mem rules.old cells.old words.old) (mem rules.new cells.new words.new)
         links.old links.new (text_of (view (mem rules.new cells.new words.new)) result) }
 {
-    let verdict = recogniser::parse(rules, cells, words, links, pool, &symbols[..n]);
-    let answer = verdict.answer;
-    Reply::Parse(answer, verdict.links, sets_in_use(rules, cells))
+    let read = recogniser::parse(rules, cells, words, links, pool, &symbols[..n]);
+    Reply::Parse(read, sets_in_use(rules, cells))
 }
 
 // G: collect.
@@ -137,8 +103,8 @@ pub fn collect(rules: &mut [u8], cells: &mut [u8], words: &mut [u64]) -> Reply
         (mem rules.old cells.old words.old) (mem rules.new cells.new words.new)
         (text_of (view (mem rules.new cells.new words.new)) result) }
 {
-    let answer = generator::collect(rules, cells, words);
-    Reply::Collect(answer, sets_in_use(rules, cells))
+    let done = generator::collect(rules, cells, words);
+    Reply::Collect(done, sets_in_use(rules, cells))
 }
 
 // R: restart.
@@ -148,8 +114,8 @@ pub fn restart(rules: &mut [u8], cells: &mut [u8], words: &mut [u64]) -> Reply
         (mem rules.old cells.old words.old) (mem rules.new cells.new words.new)
         (text_of (view (mem rules.new cells.new words.new)) result) }
 {
-    let answer = generator::restart(rules, cells, words);
-    Reply::Collect(answer, sets_in_use(rules, cells))
+    let done = generator::restart(rules, cells, words);
+    Reply::Collect(done, sets_in_use(rules, cells))
 }
 
 // L: "Collect, Restart and the listing check 11 alone."
@@ -161,7 +127,7 @@ pub fn list(rules: &[u8], cells: &[u8], words: &[u64]) -> Reply
     if form::is_formed(rules, cells, words) {
         return Reply::Listing;
     }
-    Reply::Alone(Answer::BadTable)
+    Reply::Alone(Err(Refusal::BadTable))
 }
 
 // How many sets of the table are in use; 0 where the slices are too short to hold one.

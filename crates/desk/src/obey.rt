@@ -8,15 +8,8 @@ ghost use Rattle.desk.specs.Obeys.{state, Obeys, Prints};
 use super::calls;
 use replies::Reply;
 use script::Command;
-use symbols::Answer;
+use symbols::Refusal;
 use text::Text;
-
-// What a command leaves beside the numbers: its reply, and the size of the link pool from then on.
-#[derive(Clone, Copy)]
-pub struct Obeyed {
-    pub reply: Reply,
-    pub pool: usize,
-}
 
 // Makes the call of the command that was read. Its symbols stand in the buffer as `script::read` puts them.
 fn obey(
@@ -26,53 +19,27 @@ fn obey(
     cells: &mut [u8],
     words: &mut [u64],
     links: &mut [u16],
-    pool: usize,
-) -> Obeyed
+    pool: &mut usize,
+) -> Reply
     requires { symbols_of read ≤ length symbols.now }
-    ensures { Printable (mem rules.new cells.new words.new) result.reply
-        × Obeys (state (mem rules.old cells.old words.old) links.old pool)
-        (state (mem rules.new cells.new words.new) links.new result.pool)
-        (text_of (view (mem rules.new cells.new words.new)) result.reply) (told symbols.now read) }
+    ensures { Printable (mem rules.new cells.new words.new) result
+        × Obeys (state (mem rules.old cells.old words.old) links.old pool.old)
+        (state (mem rules.new cells.new words.new) links.new pool.new)
+        (text_of (view (mem rules.new cells.new words.new)) result) (told symbols.now read) }
 {
     let Some(command) = read else {
-        return Obeyed {
-            reply: Reply::Alone(Answer::Malformed),
-            pool,
-        };
+        return Reply::Alone(Err(Refusal::Malformed));
     };
     match command {
-        Command::New(sets, places, size) => {
-            let made = calls::new(rules, cells, words, pool, sets, places, size);
-            let answer = made.answer;
-            Obeyed {
-                reply: Reply::Alone(answer),
-                pool: made.pool,
-            }
-        }
-        Command::Add(n) => {
-            let reply = calls::add(rules, cells, words, symbols, n);
-            Obeyed { reply, pool }
-        }
-        Command::Delete(n) => {
-            let reply = calls::delete(rules, cells, words, symbols, n);
-            Obeyed { reply, pool }
-        }
-        Command::Parse(n) => {
-            let reply = calls::parse(rules, cells, words, links, pool, symbols, n);
-            Obeyed { reply, pool }
-        }
-        Command::Collect => {
-            let reply = calls::collect(rules, cells, words);
-            Obeyed { reply, pool }
-        }
-        Command::Restart => {
-            let reply = calls::restart(rules, cells, words);
-            Obeyed { reply, pool }
-        }
-        Command::List => {
-            let reply = calls::list(rules, cells, words);
-            Obeyed { reply, pool }
-        }
+        Command::New(sets, places, size) => Reply::Alone(calls::new(
+            rules, cells, words, pool, sets, places, size,
+        )),
+        Command::Add(n) => calls::add(rules, cells, words, symbols, n),
+        Command::Delete(n) => calls::delete(rules, cells, words, symbols, n),
+        Command::Parse(n) => calls::parse(rules, cells, words, links, *pool, symbols, n),
+        Command::Collect => calls::collect(rules, cells, words),
+        Command::Restart => calls::restart(rules, cells, words),
+        Command::List => calls::list(rules, cells, words),
     }
 }
 
@@ -101,12 +68,15 @@ pub fn answer(
 {
     let mut symbols = [0u8; 256];
     let read = script::read(line, &mut symbols);
-    let done = obey(read, &symbols, rules, cells, words, links, pool);
-    let reply = done.reply;
-    let mut text = Text { bytes: out, end: at };
+    let mut pool = pool;
+    let reply = obey(read, &symbols, rules, cells, words, links, &mut pool);
+    let mut text = Text {
+        bytes: out,
+        end: at,
+    };
     replies::put(reply, rules, cells, words, &mut text);
     Answered {
-        pool: done.pool,
+        pool,
         end: text.end,
     }
 }
