@@ -1,6 +1,6 @@
 -- Calls on lent numbers, and sequences of them, as their contracts have them and nothing else. Assumes nothing.
-use Rattle.std.specs.Prelude.{◌≡◌, List, [], ℕ}
-use Rattle.symbols.specs.Answer.{DONE, number_of}
+use Rattle.std.specs.Prelude.{◌≡◌, Result, List, [], ℕ}
+use Rattle.symbols.specs.Answer.{DONE, number_of, answer_of_parse, links_with}
 use Rattle.theory.specs.Calls as calls
 use Rattle.theory.specs.Made.{Call, Rule, left}
 use Rattle.theory.specs.Made.Call.{new as new-call, add as add-call, delete as delete-call}
@@ -8,7 +8,8 @@ use Rattle.theory.specs.Made.Call.{collect as collect-call, restart as restart-c
 use Rattle.table.specs.Layout.{Mem}
 use Rattle.table.specs.Becomes.{Promised}
 use Rattle.generator.specs.Calls.{NewPromised}
-use Rattle.positions.specs.declared.Verdict.{Verdict}
+use Rattle.symbols.specs.declared.refusal.Refusal.{Refusal}
+use Rattle.symbols.specs.declared.verdict.Verdict.{Verdict}
 use Rattle.recogniser.specs.Parse.{Parses}
 
 -- The call c on the lent numbers m answers a, with the number k (a rule's, or how many links; 0 where there is none), and leaves n
@@ -18,8 +19,8 @@ pub data Called : Call → Mem → Mem → ℕ → ℕ → Type 0 where
   delete : {m n : Mem} {x a k : ℕ} {w : List ℕ} → Promised (λ t. calls.delete t x w) m n a k → Called (delete-call x w) m n a k
   collect : {m n : Mem} {a k : ℕ} → Promised calls.collect m n a k → Called collect-call m n a k
   restart : {m n : Mem} {a k : ℕ} → Promised calls.restart m n a k → Called restart-call m n a k
-  parse : {m n : Mem} {pool a k : ℕ} {line b c : List ℕ} {v : Verdict}
-      → Parses pool line m n b c v → number_of v.answer ≡ a → v.links ≡ k → Called (parse-Call pool line) m n a k
+  parse : {m n : Mem} {pool a k : ℕ} {line b c : List ℕ} {v : Result Verdict Refusal}
+      → Parses pool line m n b c v → number_of (answer_of_parse v) ≡ a → links_with v ≡ k → Called (parse-Call pool line) m n a k
 
 -- The lent numbers m after an accepted New, on any numbers, and any calls since, with any arguments, refused ones among them; R are
 -- the rules that the accepted additions and withdrawals since New have left

@@ -1,11 +1,49 @@
 // 01's calls, and the form test.
+ghost use Rattle.std.specs.Prelude.{◌≡◌};
 ghost use Rattle.laws.specs.Choice.{Tells};
+ghost use Rattle.symbols.specs.Answer.{number_of, answer_of, number_with};
 ghost use Rattle.theory.specs.Calls.{add, delete, collect, restart};
 ghost use Rattle.table.specs.Layout.{mem};
 ghost use Rattle.table.specs.Laid.{Formed};
 ghost use Rattle.table.specs.Becomes.{Promised};
 ghost use Rattle.generator.specs.Calls.{NewPromised};
 ghost use Rattle.skydoublet.specs.Parse.{ParsesTo};
+
+use symbols::Refusal;
+
+// 01's numbers of the answers that are no refusal. A caller in C gets an answer as its number.
+const DONE: u8 = 0;
+
+const ACCEPT: u8 = 1;
+
+const REJECT: u8 = 2;
+
+// The number of what a call answers.
+fn answer_of(done: Result<(), Refusal>) -> u8
+    ensures { result ≡ number_of (answer_of done) }
+{
+    match done {
+        Ok(()) => DONE,
+        Err(refusal) => refusal.number(),
+    }
+}
+
+// The same of a change, whose rule's number, 0 on a refusal, goes to `number`.
+fn change_of(changed: Result<usize, Refusal>, number: &mut usize) -> u8
+    ensures answer { result ≡ number_of (answer_of changed) }
+    ensures number { number.new ≡ number_with changed }
+{
+    match changed {
+        Ok(rule) => {
+            *number = rule;
+            DONE
+        }
+        Err(refusal) => {
+            *number = 0;
+            refusal.number()
+        }
+    }
+}
 
 // New: a table of so many sets and places for rules.
 pub fn skydoublet_new(
@@ -18,7 +56,7 @@ pub fn skydoublet_new(
     ensures { NewPromised (mem rules.old cells.old words.old) (mem rules.new cells.new words.new)
         sets places result }
 {
-    generator::new(rules, cells, words, sets, places).number()
+    answer_of(generator::new(rules, cells, words, sets, places))
 }
 
 // Add. The number of the rule, 0 on a refusal, goes to `number`.
@@ -34,10 +72,7 @@ pub fn skydoublet_add(
         (mem rules.old cells.old words.old) (mem rules.new cells.new words.new)
         result number.new }
 {
-    let changed = generator::add(rules, cells, words, left, right);
-    let answer = changed.answer;
-    *number = changed.rule;
-    answer.number()
+    change_of(generator::add(rules, cells, words, left, right), number)
 }
 
 // Delete. The number of the rule, 0 on a refusal, goes to `number`.
@@ -53,10 +88,7 @@ pub fn skydoublet_delete(
         (mem rules.old cells.old words.old) (mem rules.new cells.new words.new)
         result number.new }
 {
-    let changed = generator::delete(rules, cells, words, left, right);
-    let answer = changed.answer;
-    *number = changed.rule;
-    answer.number()
+    change_of(generator::delete(rules, cells, words, left, right), number)
 }
 
 // Collect.
@@ -65,7 +97,7 @@ pub fn skydoublet_collect(rules: &mut [u8], cells: &mut [u8], words: &mut [u64])
         (mem rules.old cells.old words.old) (mem rules.new cells.new words.new)
         result 0 }
 {
-    generator::collect(rules, cells, words).number()
+    answer_of(generator::collect(rules, cells, words))
 }
 
 // Restart.
@@ -74,7 +106,7 @@ pub fn skydoublet_restart(rules: &mut [u8], cells: &mut [u8], words: &mut [u64])
         (mem rules.old cells.old words.old) (mem rules.new cells.new words.new)
         result 0 }
 {
-    generator::restart(rules, cells, words).number()
+    answer_of(generator::restart(rules, cells, words))
 }
 
 // Parse. The number of links, 0 on a refusal, goes to `number`.
@@ -90,10 +122,16 @@ pub fn skydoublet_parse(
     ensures { ParsesTo pool line.now (mem rules.old cells.old words.old)
         (mem rules.new cells.new words.new) links.old links.new result number.new }
 {
-    let verdict = recogniser::parse(rules, cells, words, links, pool, line);
-    let answer = verdict.answer;
-    *number = verdict.links;
-    answer.number()
+    match recogniser::parse(rules, cells, words, links, pool, line) {
+        Ok(verdict) => {
+            *number = verdict.links;
+            if verdict.accepts { ACCEPT } else { REJECT }
+        }
+        Err(refusal) => {
+            *number = 0;
+            refusal.number()
+        }
+    }
 }
 
 // Whether the lent numbers are laid out and hold a table in form.
