@@ -11,7 +11,7 @@ use lib.ListN.{length}
 use Rattle.laws.proofs.Choice.{when-cases}
 use Rattle.laws.proofs.Tables.{length_tab}
 use Rattle.symbols.specs.Symbol.{nonterminal, all_on_right, rule_answer}
-use Rattle.symbols.specs.Answer.{DONE, BAD_POOL, BAD_TABLE, THERE, NOT_THERE, NO_RULES, LONG_LINE, BAD_TOKEN, number_of}
+use Rattle.symbols.specs.Answer.{DONE, BAD_POOL, BAD_TABLE, THERE, NOT_THERE, NO_RULES, LONG_LINE, BAD_TOKEN, number_of, answer_of_parse, links_with}
 use Rattle.theory.specs.Table.{WITHDRAWN, Table}
 use Rattle.theory.specs.Expansion.{collected}
 use Rattle.theory.specs.Parse.{Outcome, outcome}
@@ -28,7 +28,9 @@ use Rattle.table.specs.Becomes.{Promised}
 use Rattle.changes.specs.Change.{Fits}
 use Rattle.generator.specs.Calls.{NewPromised}
 use Rattle.links.specs.Records.{numbers_for}
-use Rattle.positions.specs.declared.Verdict.{Verdict}
+use Rattle.std.specs.Prelude.{Result}
+use Rattle.symbols.specs.declared.refusal.Refusal.{Refusal}
+use Rattle.symbols.specs.declared.verdict.Verdict.{Verdict}
 use Rattle.recogniser.specs.Parse.{Parses}
 use Rattle.demands.specs.Run.{Called, Run}
 use Rattle.demands.specs.Run.Called.{new, add, delete, collect, restart, parse}
@@ -91,20 +93,20 @@ bad_table (parse {m = m} {pool = pool} {line = line} p e f) i = (
 
 -- ---- Parse on a table in form: "10 (links), 18, 19"
 
-module _ {m n : Mem} {b c : List ℕ} {pool : ℕ} {line : List ℕ} {v : Verdict} (f : Formed m) (p : Parses pool line m n b c v) where
-  pub parse-bad_pool : (number_of v.answer ≡ BAD_POOL) ↔ ((4096 < pool) ⊎ (length b < numbers_for pool))
+module _ {m n : Mem} {b c : List ℕ} {pool : ℕ} {line : List ℕ} {v : Result Verdict Refusal} (f : Formed m) (p : Parses pool line m n b c v) where
+  pub parse-bad_pool : (number_of (answer_of_parse v) ≡ BAD_POOL) ↔ ((4096 < pool) ⊎ (length b < numbers_for pool))
   parse-bad_pool = of_lent f p (λ o. (o.answer ≡ BAD_POOL) ↔ ((4096 < pool) ⊎ (length b < numbers_for pool)))
       (λ h. let (to, from) = parse-Call.bad_pool-exactly (view m) f.form pool line in
       (λ e. inl (to e), ⊎_elim from (λ l. absurd (omega arith))))
       (λ h. (λ e. inr h, λ e. refl))
 
-  pub parse-long_line : (number_of v.answer ≡ LONG_LINE) ↔ ((pool ≤ 4096) × (numbers_for pool ≤ length b) × (255 < length line))
+  pub parse-long_line : (number_of (answer_of_parse v) ≡ LONG_LINE) ↔ ((pool ≤ 4096) × (numbers_for pool ≤ length b) × (255 < length line))
   parse-long_line = of_lent f p (λ o. (o.answer ≡ LONG_LINE) ↔ ((pool ≤ 4096) × (numbers_for pool ≤ length b) × (255 < length line)))
       (λ h. let (to, from) = parse-Call.long_line-exactly (view m) f.form pool line in
       (λ e. let (l, s) = to e in (l, h, s), λ (l, k, s). from (l, s)))
       (λ h. (λ e. absurd (omega arith), λ (l, k, s). absurd (omega arith)))
 
-  pub parse-bad_token : (number_of v.answer ≡ BAD_TOKEN)
+  pub parse-bad_token : (number_of (answer_of_parse v) ≡ BAD_TOKEN)
       ↔ ((pool ≤ 4096) × (numbers_for pool ≤ length b) × (length line ≤ 255) × (T (all_tokens line) → ⊥))
   parse-bad_token =
       of_lent f p

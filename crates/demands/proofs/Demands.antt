@@ -7,7 +7,7 @@ use mathlib.Core.List.{List, [], Memᴰ as In}
 use Prim.Native.Nat.{ℕ, ◌+◌, ◌≤◌, ◌<◌}
 use lib.ListN.{length}
 use Rattle.symbols.specs.Symbol.{rule_answer}
-use Rattle.symbols.specs.Answer.{BAD_TABLE, DONE, BAD_POOL, THERE, NOT_THERE, NO_RULES, NO_SETS, number_of}
+use Rattle.symbols.specs.Answer.{BAD_TABLE, DONE, BAD_POOL, THERE, NOT_THERE, NO_RULES, NO_SETS, number_of, answer_of_parse, links_with}
 use Rattle.theory.specs.Items.{Expanded, Generated}
 use Rattle.theory.specs.Table.{EXPANDED, Table, free_set, set_at, grammar, automaton, Reach}
 use Rattle.theory.specs.Parse.{Outcome, outcome}
@@ -29,7 +29,9 @@ use Rattle.expansion.specs.Expansion.{Expandable, Expands}
 use Rattle.generator.specs.Calls.{NewPromised}
 use Rattle.generator.proofs.OneOutcome as generator
 use Rattle.links.specs.Records.{numbers_for}
-use Rattle.positions.specs.declared.Verdict.{Verdict}
+use Rattle.std.specs.Prelude.{Result}
+use Rattle.symbols.specs.declared.refusal.Refusal.{Refusal}
+use Rattle.symbols.specs.declared.verdict.Verdict.{Verdict}
 use Rattle.recogniser.specs.Parse.{Parses}
 use Rattle.recogniser.proofs.OneOutcome as recogniser
 use Rattle.script.specs.Command.{Means}
@@ -57,7 +59,7 @@ pub call-once : {call : Table → Outcome} {m n n' : Mem} {a a' k k' : ℕ} → 
     → SameLengths n n' → (n ≡ n') × (a ≡ a') × (k ≡ k')
 call-once = form.one-outcome
 
-pub parse-once : {pool : ℕ} {line b c c' : List ℕ} {m n n' : Mem} {v v' : Verdict} → Parses pool line m n b c v
+pub parse-once : {pool : ℕ} {line b c c' : List ℕ} {m n n' : Mem} {v v' : Result Verdict Refusal} → Parses pool line m n b c v
     → Parses pool line m n' b c' v' → SameLengths n n' → length c ≡ length c' → (n ≡ n') × (c ≡ c') × (v ≡ v')
 parse-once = recogniser.one-outcome
 
@@ -73,8 +75,8 @@ module _ {c : Call} {m n : Mem} {a k : ℕ} (p : Called c m n a k) where
   refusal-leaves-all = refused.refusal-leaves-all p
 
 -- .. of Parse every number of the link buffer too
-pub refusal-leaves-links : {pool : ℕ} {line b c : List ℕ} {m n : Mem} {v : Verdict} → Parses pool line m n b c v
-    → LeavesAll (number_of v.answer) → c ≡ b
+pub refusal-leaves-links : {pool : ℕ} {line b c : List ℕ} {m n : Mem} {v : Result Verdict Refusal} → Parses pool line m n b c v
+    → LeavesAll (number_of (answer_of_parse v)) → c ≡ b
 refusal-leaves-links = refused.refusal-leaves-links
 
 -- after any sequence THERE, NOT-THERE and NO-RULES go by the rules that are left (the other checks' refusals: `Checks`)
@@ -99,7 +101,7 @@ collect-keeps-form = kept.collect-keeps-form
 pub restart-keeps-form : {m n : Mem} {a k : ℕ} → Promised calls.restart m n a k → Formed m → Formed n
 restart-keeps-form = kept.restart-keeps-form
 
-pub parse-keeps-form : {pool : ℕ} {line b c : List ℕ} {m n : Mem} {v : Verdict} → Parses pool line m n b c v → Formed m → Formed n
+pub parse-keeps-form : {pool : ℕ} {line b c : List ℕ} {m n : Mem} {v : Result Verdict Refusal} → Parses pool line m n b c v → Formed m → Formed n
 parse-keeps-form = kept.parse-keeps-form
 
 -- an expansion "fails exactly when the sets reachable before it, and the kernels it leads to that none of them has, together outnumber
@@ -109,9 +111,9 @@ pub room-exact : {m n : Mem} {u a b : ℕ} {done : Bool} → Expandable m u → 
 room-exact = room.room-exact
 
 -- ---- Demand 2: Parse after any sequence
-module _ {m n : Mem} {R : List Rule} (r : Run m R) {pool : ℕ} {line b c : List ℕ} {v : Verdict} (p : Parses pool line m n b c v) where
+module _ {m n : Mem} {R : List Rule} (r : Run m R) {pool : ℕ} {line b c : List ℕ} {v : Result Verdict Refusal} (p : Parses pool line m n b c v) where
   abbrev answer : ℕ
-  answer = number_of v.answer
+  answer = number_of (answer_of_parse v)
 
   -- a verdict is to accept exactly if START derives the line by the table's current rules, equally by the rules that the history left
   pub verdict : Decides (grammar (view m).rules) line answer
@@ -121,7 +123,7 @@ module _ {m n : Mem} {R : List Rule} (r : Run m R) {pool : ℕ} {line b c : List
   verdict-by_history = decides r p (λ h. demand2.verdict-by_history h pool line)
 
   -- the number is then the size of the graph of links
-  pub number_of-links : IsVerdict answer → Size (view n) line v.links
+  pub number_of-links : IsVerdict answer → Size (view n) line (links_with v)
   number_of-links = of_verdict r p (λ o. Size o.table line o.number) (λ h a. (demand2.number_of-links h pool line a).0)
 
   -- NO-SETS leaves a set in reach unexpanded, for whose expansion there is no room
@@ -130,7 +132,7 @@ module _ {m n : Mem} {R : List Rule} (r : Run m R) {pool : ℕ} {line b c : List
 
   -- within the limits, over a buffer with room for its pool, answer, number and table come exactly when 01's steps give them
   pub exactly-when : Fits pool line → numbers_for pool ≤ length b → (o : Outcome)
-      → (outcome answer v.links (view n) ≡ o) ↔ Steps pool (view m) 0 [] line o
+      → (outcome answer (links_with v) (view n) ≡ o) ↔ Steps pool (view m) 0 [] line o
   exactly-when fits room o =
       of_parse r p room (λ q. (q ≡ o) ↔ Steps pool (view m) 0 [] line o) (λ h. demand2.exactly-when h pool line fits o)
 

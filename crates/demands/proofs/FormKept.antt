@@ -13,7 +13,9 @@ use Rattle.table.specs.Layout.{Mem, view}
 use Rattle.table.specs.Laid.{Formed}
 use Rattle.table.specs.Becomes.{Promised}
 use Rattle.generator.specs.Calls.{NewPromised}
-use Rattle.positions.specs.declared.Verdict.{Verdict}
+use Rattle.std.specs.Prelude.{Result}
+use Rattle.symbols.specs.declared.refusal.Refusal.{Refusal}
+use Rattle.symbols.specs.declared.verdict.Verdict.{Verdict}
 use Rattle.recogniser.specs.Parse.{Parses}
 use Rattle.demands.proofs.Made.{new_or, of_lent}
 
@@ -32,7 +34,7 @@ collect-keeps-form {m} = promised-keeps (theory.collect-keeps-form (view m))
 pub restart-keeps-form : {m n : Mem} {a k : ℕ} → Promised calls.restart m n a k → Formed m → Formed n
 restart-keeps-form {m} = promised-keeps (theory.restart-keeps-form (view m))
 
-pub parse-keeps-form : {pool : ℕ} {line b c : List ℕ} {m n : Mem} {v : Verdict} → Parses pool line m n b c v → Formed m → Formed n
+pub parse-keeps-form : {pool : ℕ} {line b c : List ℕ} {m n : Mem} {v : Result Verdict Refusal} → Parses pool line m n b c v → Formed m → Formed n
 parse-keeps-form {pool} {line} {m = m} p f = record {
   laid = (p.promised.table f).laid;
   form = of_lent f p (λ o. InForm o.table) (λ h. theory.parse-keeps-form (view m) f.form pool line) (λ h. f.form);

@@ -8,7 +8,7 @@ use mathlib.Core.List.{List, Memᴰ as In}
 use Prim.Native.Nat.{ℕ, ◌≤◌}
 use native.Mathlib.Omega.{arith}
 use Rattle.laws.proofs.Choice.{when-cases}
-use Rattle.symbols.specs.Answer.{BAD_POOL, BAD_TABLE, number_of}
+use Rattle.symbols.specs.Answer.{BAD_POOL, BAD_TABLE, number_of, answer_of_parse, links_with}
 use Rattle.theory.specs.Table.{Table}
 use Rattle.theory.specs.Parse.{Outcome}
 use Rattle.theory.specs.Form.{in_form}
@@ -24,7 +24,9 @@ use Rattle.table.specs.Laid.{Formed}
 use Rattle.table.specs.Becomes.{Becomes, Promised}
 use Rattle.table.proofs.OneOutcome.{SameLengths, one_memory}
 use Rattle.form.proofs.Formed.{formed_dec}
-use Rattle.positions.specs.declared.Verdict.{Verdict}
+use Rattle.std.specs.Prelude.{Result}
+use Rattle.symbols.specs.declared.refusal.Refusal.{Refusal}
+use Rattle.symbols.specs.declared.verdict.Verdict.{Verdict}
 use Rattle.recogniser.specs.Parse.{lent_parse, Parses}
 use Rattle.demands.specs.Run.{Called}
 use Rattle.demands.specs.Run.Called.{new, add, delete, collect, restart, parse}
@@ -102,7 +104,7 @@ refusal-number (restart p) h = promised-number (refusing restart-call) p h
 refusal-number (parse {pool = pool} {line = line} {b = b} p e f) h =
     sym f ∙ promised-number (lent_refusing b pool line) p.promised (subst (λ a. BAD_POOL ≤ a) (sym e) h)
 
-pub refusal-leaves-links : {pool : ℕ} {line b c : List ℕ} {m n : Mem} {v : Verdict} → Parses pool line m n b c v
-    → LeavesAll (number_of v.answer) → c ≡ b
+pub refusal-leaves-links : {pool : ℕ} {line b c : List ℕ} {m n : Mem} {v : Result Verdict Refusal} → Parses pool line m n b c v
+    → LeavesAll (number_of (answer_of_parse v)) → c ≡ b
 refusal-leaves-links p (h, l) =
     p.untouched (⊎_elim (λ e. omega arith) (⊎_elim (λ e. omega arith) (⊎_elim (λ e. omega arith) (λ e. omega arith))))

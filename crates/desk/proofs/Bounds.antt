@@ -29,7 +29,9 @@ use Rattle.form.proofs.Formed.{formed_dec}
 use Rattle.table.proofs.Becoming.{rules-seen}
 use Rattle.generator.proofs.Promises.{collected-rules}
 use Rattle.links.specs.Records.{numbers_for}
-use Rattle.positions.specs.declared.Verdict.{Verdict}
+use Rattle.std.specs.Prelude.{Result}
+use Rattle.symbols.specs.declared.refusal.Refusal.{Refusal}
+use Rattle.symbols.specs.declared.verdict.Verdict.{Verdict}
 use Rattle.recogniser.specs.Parse.{lent_parse, Parses}
 
 -- ---- rule numbers
@@ -110,5 +112,5 @@ lent_number b pool line t =
     when-cases (λ (o : Outcome). o.number ≤ 4096) (leb (numbers_for pool) (length b)) (λ _. parse-number t pool line)
     (λ _. when-cases (λ (o : Outcome). o.number ≤ 4096) (in_form t) (λ _. zero-le) (λ _. zero-le))
 
-pub parse_digits : {pool : ℕ} {line : List ℕ} {m n : Mem} {b c : List ℕ} {v : Verdict} → Parses pool line m n b c v → v.links ≤ 9999
+pub parse_digits : {pool : ℕ} {line : List ℕ} {m n : Mem} {b c : List ℕ} {v : Result Verdict Refusal} → Parses pool line m n b c v → (links_with v) ≤ 9999
 parse_digits {pool} {line} {m} {b = b} p = promised-small p.promised (λ f. lent_number b pool line (view m))

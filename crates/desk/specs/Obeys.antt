@@ -2,7 +2,7 @@
 -- Assumes nothing.
 use Rattle.std.specs.Prelude.{Bool, true, false, ◌≡◌, ◌≢◌, List, ℕ, leb}
 use Rattle.laws.specs.Choice.{◌and◌}
-use Rattle.symbols.specs.Answer.{DONE, BAD_POOL, BAD_TABLE, MALFORMED, number_of}
+use Rattle.symbols.specs.Answer.{DONE, BAD_POOL, BAD_TABLE, MALFORMED, number_of, answer_of_parse, links_with}
 use Rattle.theory.specs.Table.{Table, in_use}
 use Rattle.theory.specs.Parse.{Outcome}
 use Rattle.theory.specs.Calls as calls
@@ -11,7 +11,9 @@ use Rattle.table.specs.Laid.{Formed}
 use Rattle.table.specs.Becomes.{Promised}
 use Rattle.generator.specs.Calls.{NewPromised}
 use Rattle.recogniser.specs.Parse.{Parses}
-use Rattle.positions.specs.declared.Verdict.{Verdict}
+use Rattle.std.specs.Prelude.{Result}
+use Rattle.symbols.specs.declared.refusal.Refusal.{Refusal}
+use Rattle.symbols.specs.declared.verdict.Verdict.{Verdict}
 use Rattle.script.specs.Command.{Meaning, Means}
 use Rattle.script.specs.Command.Meaning.{new, add, delete, parse, collect, restart, list, malformed}
 use Rattle.text.specs.Puts.{Puts}
@@ -58,7 +60,7 @@ pub record Changes (call : Table → Outcome) (m n : Mem) (text : List ℕ) : Ty
 
 -- "`P tokens..`; prints answer, links, sets in use, also on 20 and 21."
 pub record Parsed (pool : ℕ) (tokens : List ℕ) (m n : Mem) (b c : List ℕ) (text : List ℕ) : Type 0 where
-  pub verdict : Verdict
+  pub verdict : Result Verdict Refusal
   pub parses : Parses pool tokens m n b c verdict
   pub printed : text ≡ parse_line (number_of verdict.answer) verdict.links (in_use (view n))
 

@@ -7,7 +7,7 @@ use Prim.Native.Nat.{ℕ, ◌<◌}
 use native.Mathlib.Numerals.{add-one}
 use native.Mathlib.Omega.{arith}
 use lib.ListN.{length}
-use Rattle.symbols.specs.Answer.{number_of}
+use Rattle.symbols.specs.Answer.{number_of, answer_of_parse, links_with}
 use Rattle.symbols.specs.declared.answer.Answer.{Answer}
 use Rattle.symbols.specs.declared.answer.Answer.TheVariants.{Accept, Reject, NoLinks}
 use Rattle.theory.specs.Table.{Table}
@@ -24,7 +24,9 @@ use Rattle.links.specs.Records.{Graph, graph, counts, links_of}
 use Rattle.links.proofs.Listed.{count}
 use Rattle.saturation.specs.Ends.{Shifts, Accepting}
 use Rattle.theory.proofs.Shifting.{shifting, not_fewer, none-new}
-use Rattle.positions.specs.declared.Verdict.{Verdict}
+use Rattle.std.specs.Prelude.{Result}
+use Rattle.symbols.specs.declared.refusal.Refusal.{Refusal}
+use Rattle.symbols.specs.declared.verdict.Verdict.{Verdict}
 use Rattle.positions.specs.Reading.{Stands, Settles, Refuses, SettlesOr, Advances, AdvancesOr, Holds, Finishes}
 use Rattle.positions.specs.declared.Advanced.TheVariants.{On, Ends}
 use Rattle.positions.specs.declared.settle.Settled.TheVariants.{Ready as ReadyWith, Refused}
@@ -65,13 +67,13 @@ module _ {h : Here} {m : Mem} {x : Graph} {n : Mem} {b at : List ℕ} where
       second : {i : ℕ} {d : Counts} → On s c ≡ On i d → c ≡ d
       second e = cc
 
-  pub came_to-end : {k : ℕ} {v : Verdict} → ((w : List ℕ) → Finishes h (k ∷ w) m x n b v) → AdvancesOr h k m x n b at (Ends v)
+  pub came_to-end : {k : ℕ} {v : Result Verdict Refusal} → ((w : List ℕ) → Finishes h (k ∷ w) m x n b v) → AdvancesOr h k m x n b at (Ends v)
   came_to-end {k} {v} f = record {
     on = λ i d e. absurd (let z : ◌≡◌ {A = ℕ} 0 1 = cc in omega arith);
     ends = λ u e. subst (λ u. (w : List ℕ) → Finishes h (k ∷ w) m x n b u) (the e) f;
   }
     where
-      the : {u : Verdict} → Ends v ≡ Ends u → v ≡ u
+      the : {u : Result Verdict Refusal} → Ends v ≡ Ends u → v ≡ u
       the e = cc
 
 -- ---- a position that was not settled

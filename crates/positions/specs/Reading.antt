@@ -1,7 +1,7 @@
 -- What the steps of a parse rely on at a position, and what they come to, in terms of theory's Steps. Assumes nothing.
 use Rattle.std.specs.Prelude.{◌≡◌, List, [], ◌∷◌, ℕ, suc, ◌≤◌}
 use Rattle.symbols.specs.declared.answer.Answer.{Answer}
-use Rattle.symbols.specs.Answer.{ACCEPT, NO_SETS, number_of}
+use Rattle.symbols.specs.Answer.{ACCEPT, NO_SETS, number_of, answer_of_parse, links_with}
 use Rattle.theory.specs.Table.{Table}
 use Rattle.theory.specs.Parse.{Link, outcome}
 use Rattle.theory.specs.Steps.{Ready, Steps}
@@ -16,7 +16,9 @@ use Rattle.links.specs.declared.Counts.{Counts}
 use Rattle.links.specs.Records.{numbers_for, Graph, graph, counts, links_in, links_of}
 use Rattle.links.specs.Held.{Held}
 use Rattle.saturation.specs.Ends.{next}
-use Rattle.positions.specs.declared.Verdict.{Verdict}
+use Rattle.std.specs.Prelude.{Result}
+use Rattle.symbols.specs.declared.refusal.Refusal.{Refusal}
+use Rattle.symbols.specs.declared.verdict.Verdict.{Verdict}
 use Rattle.positions.specs.declared.settle.Settled.{Settled}
 use Rattle.positions.specs.declared.settle.Settled.TheVariants.{Ready as ReadyWith, Refused}
 use Rattle.positions.specs.declared.Advanced.{Advanced}
@@ -74,15 +76,15 @@ pub record Holds (pool : ℕ) (t : Table) (p : ℕ) (ls : List Link) (w : List �
   pub ready : Ready pool (view n) last.position from (links_in b l)
 
 -- the end of a parse with the tokens w to come; b is the buffer that it leaves
-pub record Finishes (h : Here) (w : List ℕ) (m : Mem) (x : Graph) (n : Mem) (b : List ℕ) (v : Verdict) : Type 0 where
+pub record Finishes (h : Here) (w : List ℕ) (m : Mem) (x : Graph) (n : Mem) (b : List ℕ) (v : Result Verdict Refusal) : Type 0 where
   pub kept : Kept m n
-  pub steps : Steps h.size (view m) h.position (links_of x) w (outcome (number_of v.answer) v.links (view n))
-  pub accepted : number_of v.answer ≡ ACCEPT → Holds h.size (view m) h.position (links_of x) w n b v.links
+  pub steps : Steps h.size (view m) h.position (links_of x) w (outcome (number_of (answer_of_parse v)) (links_with v) (view n))
+  pub accepted : number_of (answer_of_parse v) ≡ ACCEPT → Holds h.size (view m) h.position (links_of x) w n b (links_with v)
 
 -- what the steps of a position before the last came to
 pub record AdvancesOr (h : Here) (k : ℕ) (m : Mem) (x : Graph) (n : Mem) (b at : List ℕ) (a : Advanced) : Type 0 where
   pub on : (s : ℕ) (c : Counts) → a ≡ On s c → Advances h k m x s n (graph b at c)
-  pub ends : (v : Verdict) → a ≡ Ends v → (w : List ℕ) → Finishes h (k ∷ w) m x n b v
+  pub ends : (v : Result Verdict Refusal) → a ≡ Ends v → (w : List ℕ) → Finishes h (k ∷ w) m x n b v
 
 -- the same two of a settled position, whatever place it was settled from
 abbrev pub MovesOn : Here → ℕ → Mem → Graph → List ℕ → List ℕ → Advanced → Type 0
@@ -98,7 +100,7 @@ pub record Readable (pool : ℕ) (line : List ℕ) (m : Mem) (room : ℕ) : Type
   pub fits : Fits pool line
 
 -- the whole line
-pub record Reads (pool : ℕ) (line : List ℕ) (m n : Mem) (b : List ℕ) (v : Verdict) : Type 0 where
+pub record Reads (pool : ℕ) (line : List ℕ) (m n : Mem) (b : List ℕ) (v : Result Verdict Refusal) : Type 0 where
   pub kept : Kept m n
-  pub steps : Steps pool (view m) 0 [] line (outcome (number_of v.answer) v.links (view n))
-  pub accepted : number_of v.answer ≡ ACCEPT → Holds pool (view m) 0 [] line n b v.links
+  pub steps : Steps pool (view m) 0 [] line (outcome (number_of (answer_of_parse v)) (links_with v) (view n))
+  pub accepted : number_of (answer_of_parse v) ≡ ACCEPT → Holds pool (view m) 0 [] line n b (links_with v)

@@ -12,7 +12,7 @@ use lib.Seq.{length-take-le, take_at, drop_at, get_or-drop}
 use Rattle.laws.specs.Choice.{Tells}
 use Rattle.laws.proofs.Choice.{when-cases}
 use Rattle.symbols.specs.declared.answer.Answer.{Answer}
-use Rattle.symbols.specs.Answer.{number_of}
+use Rattle.symbols.specs.Answer.{number_of, answer_of_parse, links_with}
 use Rattle.theory.specs.Table.{Table}
 use Rattle.theory.specs.Form.{InForm, in_form}
 use Rattle.theory.specs.Parse.{Outcome, outcome}
@@ -29,7 +29,9 @@ use Rattle.table.specs.Becomes.{Becomes}
 use Rattle.links.specs.Records.{numbers_for}
 use Rattle.links.specs.Held.{Cleared}
 use Rattle.laws.proofs.Tests.{fails}
-use Rattle.positions.specs.declared.Verdict.{Verdict}
+use Rattle.std.specs.Prelude.{Result}
+use Rattle.symbols.specs.declared.refusal.Refusal.{Refusal}
+use Rattle.symbols.specs.declared.verdict.Verdict.{Verdict}
 use Rattle.positions.specs.Reading.{Readable, Reads}
 use Rattle.positions.proofs.Kept.{kept-none}
 use Rattle.recogniser.specs.declared.refusals.Checked.TheVariants.{Passed, Refused}
@@ -50,7 +52,7 @@ pub part-roomy : (n : ℕ) (b : List ℕ) → n ≤ length b → n ≤ length (t
 part-roomy n b h = omega (arith, part_length n b h)
 
 -- given back as the list y
-pub part_read : {pool : ℕ} {line : List ℕ} {m n : Mem} {b : List ℕ} {v : Verdict} (y : List ℕ) → numbers_for pool ≤ length b
+pub part_read : {pool : ℕ} {line : List ℕ} {m n : Mem} {b : List ℕ} {v : Result Verdict Refusal} (y : List ℕ) → numbers_for pool ≤ length b
     → length y ≡ length (take (numbers_for pool) b) → Reads pool line m n y v → ReadsOver pool line m n b (y ++ drop (numbers_for pool) b) v
 part_read {pool} {line} {m} {n} {b} {v} y r l s = record {
   reads = subst (λ y. Reads pool line m n y v) (sym (take_at y _ _ whole)) s;
@@ -162,18 +164,18 @@ module _ (m : Mem) (pool : ℕ) (line b : List ℕ) where
 
   -- ---- a parse that got past its checks
 
-  module _ (R : Readable pool line m (length b)) {n : Mem} {c : List ℕ} {v : Verdict} (S : ReadsOver pool line m n b c v) where
-    is : parse t pool line ≡ outcome (number_of v.answer) v.links (view n)
+  module _ (R : Readable pool line m (length b)) {n : Mem} {c : List ℕ} {v : Result Verdict Refusal} (S : ReadsOver pool line m n b c v) where
+    is : parse t pool line ≡ outcome (number_of (answer_of_parse v)) (links_with v) (view n)
     is = (outcome_of_steps t R.formed.form pool line R.fits _).1 S.reads.steps
 
-    lent : lent_parse b pool line t ≡ outcome (number_of v.answer) v.links (view n)
+    lent : lent_parse b pool line t ≡ outcome (number_of (answer_of_parse v)) (links_with v) (view n)
     lent = roomy R.roomy ∙ is
 
-    past : Past (number_of v.answer)
+    past : Past (number_of (answer_of_parse v))
     past = go (subst (Answered line) (sym (past_checks_lem t R.formed.form pool line R.fits) ∙ is)
         (parsing-answers pool t line R.formed.form))
       where
-        go : Answered line (outcome (number_of v.answer) v.links (view n)) → Past (number_of v.answer)
+        go : Answered line (outcome (number_of (answer_of_parse v)) (links_with v) (view n)) → Past (number_of (answer_of_parse v))
         go (verdict_given a z) = ⊎_elim inl (λ e. inr (inl e)) a
         go (no_room a z) = ⊎_elim (λ e. inr (inr (inl e))) (λ e. inr (inr (inr e))) a
 
