@@ -34,6 +34,14 @@ module _ {A : Type 0} {step : ℕ → A → A} {c : List ℕ} {from : ℕ} {a x 
   pub walk_end : {f : (Option ℕ)} → f ≡ None → Next c 0 16 from f → x ≡ visit step (has c 0) 1024 a
   walk_end {f} e next = walked.so_far ∙ sym (visit_skip step (has c 0) from 1024 a walked.inside (next-nothing c 0 16 from f next e))
 
+-- a turn from b to d: the next bit of those that the walk goes over, and it goes over the same ones afterwards
+module _ {ws : List ℕ} {at n : ℕ} {b d : Bits} {r : Option ℕ} (o : Over ws at n b) (g : GivesBit b r d) where
+  pub over-next : Next ws at n b.from r
+  over-next = subst (λ v. Next v at n b.from r) o.words (subst (λ m. Next b.words.now at m b.from r) o.count (subst (λ p. Next b.words.now p b.n b.from r) o.place g.gives))
+
+  pub over_still : Over ws at n d
+  over_still = record { words = g.over.words ∙ o.words; place = g.over.place ∙ o.place; count = g.over.count ∙ o.count }
+
 -- the walk b over the items of c is under way: x is what it has made of a
 pub record Walking {A : Type 0} (step : ℕ → A → A) (c : List ℕ) (b : Bits) (a x : A) : Type 0 where
   pub over : Over c 0 16 b
@@ -44,17 +52,14 @@ walking_start {step = step} {c = c} {a = a} o z = record { over = o; walked = su
 
 module _ {A : Type 0} {step : ℕ → A → A} {c : List ℕ} {a x : A} {b : Bits} where
   module _ (w : Walking step c b a x) {d : Bits} where
-    asks : {r : Option ℕ} → GivesBit b r d → Next c 0 16 b.from r
-    asks {r} g = subst (λ ws. Next ws 0 16 b.from r) w.over.words (subst (λ n. Next b.words.now 0 n b.from r) w.over.count (subst (λ p. Next b.words.now p b.n b.from r) w.over.place g.gives))
-
     pub walking_turn : {i : ℕ} {y : A} → GivesBit b (Some i) d → y ≡ step i x → Walking step c d a y
     walking_turn {i} {y} g h = record {
-      over = record { words = g.over.words ∙ w.over.words; place = g.over.place ∙ w.over.place; count = g.over.count ∙ w.over.count };
-      walked = subst (λ n. Walked step c n a y) (sym (g.on i refl)) (walk_turn w.walked refl (asks g) h);
+      over = over_still w.over g;
+      walked = subst (λ n. Walked step c n a y) (sym (g.on i refl)) (walk_turn w.walked refl (over-next w.over g) h);
     }
 
     pub walking_end : GivesBit b None d → x ≡ visit step (has c 0) 1024 a
-    walking_end g = walk_end w.walked refl (asks g)
+    walking_end g = walk_end w.walked refl (over-next w.over g)
 
 -- a walk whose step leaves the number of the words leaves it too
 visit-length : (step : ℕ → List ℕ → List ℕ) → ((i : ℕ) (ws : List ℕ) → length (step i ws) ≡ length ws) → (h : ℕ → ℕ) (n : ℕ) (a : List ℕ) → length (visit step h n a) ≡ length a

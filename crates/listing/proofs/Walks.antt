@@ -1,6 +1,6 @@
 -- A loop that puts texts: what it has put is the list so far. Assumes nothing.
 use mathlib.Core.Bool.{Bool, true, false, not}
-use mathlib.Core.Path.{◌≡◌, sym, ap, ◌∙◌}
+use mathlib.Core.Path.{◌≡◌, refl, sym, ap, subst, ◌∙◌}
 use mathlib.Core.List.{List, [], ◌∷◌, ◌++◌}
 use Prim.Native.Nat.{ℕ, ◌+◌, ◌*◌, ◌≤◌, ◌<◌, zero-le}
 use native.Mathlib.Omega.{arith}
@@ -8,6 +8,10 @@ use lib.Dec.{eqb, ltb, leb}
 use borrow.Author.Tests.{lt-ltb, le-ltb, le-leb, lt-leb, eq-eqb, ne_eqb}
 use Rattle.laws.specs.Choice.{when}
 use Rattle.kernels.specs.Kernel.{has, holds, Least}
+use Rattle.kernels.specs.Bits.{Over, GivesBit}
+use Rattle.kernels.specs.declared.bits.Bits.{Bits}
+use Rattle.kernels.proofs.KernelWalk.{over-next, over_still}
+use Rattle.std.specs.Prelude.{Some, None}
 use Rattle.text.specs.Puts.{Adds}
 use Rattle.text.specs.declared.Text.{Text}
 use Rattle.text.proofs.Putting.{adds_none, adds_then, adds_as}
@@ -32,14 +36,41 @@ module _ (p : ℕ → Bool) (f : ℕ → List ℕ) (a : ℕ) {start : Text} wher
     put_next {c} l m none there q =
         adds_as (ap (λ t. t ++ f c) (listed_skip p f a b c l m none) ∙ listed_yes p f a (omega arith) there) (adds_then so_far q)
 
--- ---- a walk by `next`
+-- ---- a walk over bits
 
-module _ (ws : List ℕ) (at : ℕ) (f : ℕ → List ℕ) {start : Text} {b : ℕ} {now : Text} (so_far : Adds start now (listed (holds ws at) f 0 b)) where
-  pub walk_next : {n c : ℕ} {next : Text} → Least ws at n b c → Adds now next (f c) → Adds start next (listed (holds ws at) f 0 (c + 1))
-  walk_next l q = put_next (holds ws at) f 0 so_far zero-le l.above (λ k g h. ap (λ x. eqb x 1) (l.none k g h)) (eq-eqb _ 1 l.there) q
+-- the walk b over the bits of the n words from `at` on is under way: the texts of those that it has passed are put
+pub record Putting (ws : List ℕ) (at n : ℕ) (f : ℕ → List ℕ) (b : Bits) (start now : Text) : Type 0 where
+  pub over : Over ws at n b
+  pub inside : b.from ≤ n * 64
+  pub so_far : Adds start now (listed (holds ws at) f 0 b.from)
 
-  pub walk_end : (n : ℕ) → b ≤ n * 64 → ((k : ℕ) → b ≤ k → k < n * 64 → has ws at k ≡ 0) → Adds start now (listed (holds ws at) f 0 (n * 64))
-  walk_end n l none = adds_as (listed_skip (holds ws at) f 0 b (n * 64) zero-le l (λ k g h. ap (λ x. eqb x 1) (none k g h))) so_far
+module _ {ws : List ℕ} {at n : ℕ} (f : ℕ → List ℕ) {b : Bits} {start : Text} where
+  pub putting_start : Over ws at n b → b.from ≡ 0 → Putting ws at n f b start start
+  putting_start o z = record {
+    over = o;
+    inside = omega arith;
+    so_far = subst (λ k. Adds start start (listed (holds ws at) f 0 k)) (sym z) (put-none (holds ws at) f 0);
+  }
+
+module _ {ws : List ℕ} {at n : ℕ} {f : ℕ → List ℕ} {b d : Bits} {start now : Text} (p : Putting ws at n f b start now) where
+  pub putting-least : {i : ℕ} → GivesBit b (Some i) d → Least ws at n b.from i
+  putting-least g = over-next p.over g
+
+  pub putting_turn : {i : ℕ} {next : Text} → GivesBit b (Some i) d → Adds now next (f i) → Putting ws at n f d start next
+  putting_turn {i} {next} g q =
+      let l = putting-least g in
+      let e : d.from ≡ i + 1 = g.on i refl in
+      record {
+        over = over_still p.over g;
+        inside = omega (arith, l.inside);
+        so_far = subst (λ k. Adds start next (listed (holds ws at) f 0 k)) (sym e)
+            (put_next (holds ws at) f 0 p.so_far zero-le l.above (λ k g h. ap (λ x. eqb x 1) (l.none k g h)) (eq-eqb _ 1 l.there) q);
+      }
+
+  pub putting_end : GivesBit b None d → Adds start now (listed (holds ws at) f 0 (n * 64))
+  putting_end g =
+      let none : (k : ℕ) → b.from ≤ k → k < n * 64 → has ws at k ≡ 0 = over-next p.over g in
+      adds_as (listed_skip (holds ws at) f 0 b.from (n * 64) zero-le p.inside (λ k g h. ap (λ x. eqb x 1) (none k g h))) p.so_far
 
 -- ---- a set's mark m and a target t, as they were read
 

@@ -7,7 +7,7 @@ ghost use Rattle.text.specs.Puts.{Adds};
 ghost use Rattle.listing.specs.Printed.{accept_text};
 ghost use Rattle.listing.specs.Walk.{listed, cell_at, item_of, leads, transition_of, reduction_of, expanded_of, body_of};
 
-use kernels::Found;
+use kernels::Bits;
 use table::{ACCEPTING, EXPANDED, mark, target};
 use text::Text;
 
@@ -40,13 +40,8 @@ fn put_kernel(words: &[u64], at: usize, text: &mut Text)
     ensures { Adds text.old text.new (SPACE ∷ 75 ∷ listed (holds words.now at) item_of 0 1024) }
 {
     put_letter(text, b'K');
-    let mut from: usize = 0;
-    loop {
-        let Found::At(item) = kernels::next(words, at, kernels::KERNEL_WORDS, from) else {
-            return;
-        };
+    for item in Bits::of(words, at, kernels::KERNEL_WORDS) {
         put_item(text, item);
-        from = item + 1;
     }
 }
 
@@ -107,13 +102,8 @@ fn put_reductions(words: &[u64], at: usize, text: &mut Text)
     ensures { Adds text.old text.new (SPACE ∷ 82 ∷ listed (holds words.now at) reduction_of 0 128) }
 {
     put_letter(text, b'R');
-    let mut from: usize = 0;
-    loop {
-        let Found::At(r) = kernels::next(words, at, kernels::REDUCTION_WORDS, from) else {
-            return;
-        };
+    for r in Bits::of(words, at, kernels::REDUCTION_WORDS) {
         text.put_spaced(r);
-        from = r + 1;
     }
 }
 

@@ -1,24 +1,23 @@
 -- `put_kernel` meets its contract. Assumes nothing.
 use native.Mathlib.Omega.{arith}
-use Rattle.kernels.specs.Kernel.{holds}
-use Rattle.kernels.proofs.NextBit.{next-at, next-nothing}
 use Rattle.text.proofs.Putting.{adds_then}
 use Rattle.listing.specs.Walk.{item_of}
 use Rattle.listing.proofs.Lengths.{items-length}
-use Rattle.listing.proofs.Walks.{put-none, walk_next, walk_end}
+use Rattle.listing.proofs.Walks.{putting_start, putting-least, putting_turn, putting_end}
 use Rattle.listing.proofs.set_body.put_kernel.Goals as goal
 
 pub loop-item-init : goal.loop-item-init
-loop-item-init c = (omega arith, put-none (holds c.args.words.now c.args.at) item_of 0)
-
-pub returns-in_default : goal.returns-in_default
-returns-in_default c = let none = next-nothing c.args.words.now c.args.at 16 c.loop-item.from c.next.result c.next.ensures c.in_default.is in
-    adds_then c.put_letter.ensures (walk_end c.args.words.now c.args.at item_of c.loop-item.invariant.1 16 c.loop-item.invariant.0 none)
+loop-item-init c =
+    rw c.into_iter-item-iterator.ensures.into_iter_gives (putting_start item_of c.of-item-items.ensures.over c.of-item-items.ensures.start)
 
 pub put_item-requires : goal.put_item-requires
-put_item-requires c = let l = next-at c.args.words.now c.args.at c.next.result c.next.ensures c.in-At.is in
-    omega (arith, l.above, l.inside, items-length c.args.words.now c.args.at c.loop-item.from c.loop-item.invariant.0)
+put_item-requires c =
+    let put = c.loop-item.invariant in
+    let l = putting-least put c.in-Some.ensures.steps in
+    omega (arith, l.above, l.inside, put.so_far, items-length c.args.words.now c.args.at c.loop-item.item-iterator.from put.inside)
 
 pub loop-item-preserved : goal.loop-item-preserved
-loop-item-preserved c = let l = next-at c.args.words.now c.args.at c.next.result c.next.ensures c.in-At.is in
-    (omega (arith, l.inside), walk_next c.args.words.now c.args.at item_of c.loop-item.invariant.1 l c.put_item.ensures)
+loop-item-preserved c = putting_turn c.loop-item.invariant c.in-Some.ensures.steps c.put_item.ensures
+
+pub returns : goal.returns
+returns c = adds_then c.put_letter.ensures (putting_end c.loop-item.invariant c.in-None.ensures.steps)
