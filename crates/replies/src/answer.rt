@@ -1,8 +1,8 @@
 // The line that is printed for an answer.
-ghost use Rattle.std.specs.Prelude.{ℕ, [], ◌∷◌, ◌+◌, ◌*◌, ◌≤◌, ◌<◌, length, get_or};
+ghost use Rattle.std.specs.Prelude.{◌≡◌, ℕ, [], ◌∷◌, ◌+◌, ◌*◌, ◌≤◌, ◌<◌, length, get_or};
 ghost use Rattle.symbols.specs.Answer.{refusal_number, number_of, answer_of, number_with, answer_of_parse, links_with};
 ghost use Rattle.text.specs.Puts.{Adds};
-ghost use Rattle.replies.specs.Printed.{line_of, answer_line, change_line, parse_line, collect_line};
+ghost use Rattle.replies.specs.Printed.{line_of, answer_line, change_line, past_checks, parse_line, collect_line};
 
 use symbols::{Refusal, Verdict};
 use text::Text;
@@ -46,10 +46,20 @@ pub fn put_parse(read: Result<Verdict, Refusal>, sets: usize, text: &mut Text)
             let answer = if verdict.accepts { ACCEPT } else { REJECT };
             put_line(answer, &[verdict.links, sets], text);
         }
-        Err(Refusal::NoSets) => put_line(usize::from(Refusal::NoSets.number()), &[0, sets], text),
-        Err(Refusal::NoLinks) => put_line(usize::from(Refusal::NoLinks.number()), &[0, sets], text),
+        Err(refusal) if is_past_checks(refusal) => put_line(
+            usize::from(refusal.number()),
+            &[0, sets],
+            text,
+        ),
         Err(refusal) => put_refusal(refusal, text),
     }
+}
+
+// Whether a Parse that was refused had got past its checks.
+fn is_past_checks(refusal: Refusal) -> bool
+    ensures { result ≡ past_checks (refusal_number refusal) }
+{
+    matches!(refusal, Refusal::NoSets | Refusal::NoLinks)
 }
 
 // Puts the line of Collect and Restart: the sets in use follow where it is done.
