@@ -1,17 +1,13 @@
 -- What a search has found, case by case. Assumes nothing.
 use mathlib.Core.Bool.{Bool, true, false, true≢false, false≢true}
-use mathlib.Core.Path.{◌≡◌, sym, ◌∙◌}
+use mathlib.Core.Path.{◌≡◌}
 use Prim.Native.Nat.{ℕ, ◌<◌}
 use native.Mathlib.Omega.{arith}
-use Rattle.std.specs.Option.{is_some, unwrap_or}
+use Rattle.std.specs.Option.{is_some}
 use Rattle.std.specs.Prelude.{Option, Some, None}
 use Rattle.checks.specs.Find.{Lowest, lowest}
 
 module _ (f : ℕ → Bool) {n : ℕ} where
-  pub lowest_or : {b : ℕ} → b ≡ n → (r : Option ℕ) → Lowest n f r → unwrap_or r b ≡ lowest n f
-  lowest_or e None l = e ∙ sym l
-  lowest_or e (Some i) l = l.1
-
   pub some_below : (r : Option ℕ) → Lowest n f r → is_some r ≡ true → lowest n f < n
   some_below None l e = absurd (false≢true e)
   some_below (Some i) (h, l) e = omega arith

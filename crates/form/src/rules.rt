@@ -19,7 +19,7 @@ fn fits(rules: &[u8], r: usize) -> bool
     ensures { result ≡ rule_fits rules.now r }
 {
     match table::state(rules, r) {
-        table::FREE => table::rule(rules, r).same(Rule::ZERO),
+        table::FREE => table::rule(rules, r) == Rule::ZERO,
         table::CURRENT | table::WITHDRAWN => table::rule(rules, r).is_well_formed(),
         _ => false,
     }
@@ -42,5 +42,5 @@ fn is_alone(rules: &[u8], r: usize) -> bool
         return true;
     }
     let x = table::rule(rules, r);
-    (0..r).all(|q| !table::rule(rules, q).same(x))
+    (0..r).all(|q| table::rule(rules, q) != x)
 }

@@ -1,13 +1,17 @@
 -- `check_delete` meets its contract: 01's order of checks. Assumes nothing.
-use mathlib.Core.Path.{sym, ◌∙◌}
+use Rattle.std.proofs.lemmas.Result.{err_from_is_err_and}
 use Rattle.checks.proofs.Deleting.{delete-refused, delete-absent, delete-there}
 use Rattle.checks.proofs.find.check_delete.Goals as goal
 
-pub returns-then-number-ne0 : goal.returns-then-number-ne0
-returns-then-number-ne0 c = delete-refused _ _ _ _ c.check_rule-checked.ensures (λ z. c.if-number-ne0.true (c.number.ensures ∙ z))
+pub returns-in_err-rule : goal.returns-in_err-rule
+returns-in_err-rule c =
+    let p = err_from_is_err_and c.from_residual.result c.from_residual.ensures.1 in
+    rw (p.1, p.2) (delete-refused _ _ _ _ c.in_err-rule.ensures)
 
-pub returns-in-Some : goal.returns-in-Some
-returns-in-Some c = delete-there _ _ _ _ c.check_rule-checked.ensures c.requires (sym c.number.ensures ∙ c.if-number-ne0.false) c.in-Some.ensures
+pub returns-in_err-number : goal.returns-in_err-number
+returns-in_err-number c =
+    let p = err_from_is_err_and c.from_residual-in_err-number.result c.from_residual-in_err-number.ensures.1 in
+    rw (p.1, p.2) (delete-absent _ _ _ _ c.in_ok-rule.ensures c.requires c.find.result _ c.find.ensures c.in_err-number.ensures.value)
 
-pub returns-in-None : goal.returns-in-None
-returns-in-None c = delete-absent _ _ _ _ c.check_rule-checked.ensures c.requires (sym c.number.ensures ∙ c.if-number-ne0.false) c.in-None.ensures
+pub returns : goal.returns
+returns c = delete-there _ _ _ _ c.in_ok-rule.ensures c.requires c.find.result _ c.find.ensures c.in_ok-number.ensures.value
