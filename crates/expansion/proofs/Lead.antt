@@ -22,7 +22,7 @@ use Rattle.theory.proofs.Kernels.{symbol_range}
 use Rattle.theory.proofs.Leading.{lookup, Good, found-good, room-first, room-rest}
 use Rattle.table.specs.Layout.{Sets, sets_in, rules_in, kernel_seen, transition, set_seen, view_rules}
 use Rattle.table.specs.Laid.{HoldsKernel}
-use Rattle.lookup.specs.Lookup.{Asked, Answered}
+use Rattle.lookup.specs.Lookup.{Answered}
 use Rattle.expansion.specs.Inner.{items_in, sets_seen, kernel_on, leading_in, RoomIn, Ready, Aimed, Leadable, led_from, LedTo}
 use Rattle.expansion.proofs.Rest.{rest, least, rest-next, rest-none, rest_all, rest_in}
 
@@ -62,18 +62,6 @@ aimed_above {rs} {c = c} {y = y} 𝓐 = (symbol_range (view_rules rs) (items_in 
 -- the answer on the slices is the model's, and it fits a cell
 module _ {rs : List ℕ} {x : Sets} {c : List ℕ} {y : ℕ} (𝓐 : Aimed rs x c y)
     {key : List ℕ} (is : HoldsKernel (rules_in rs) key 0 (kernel_on rs c y)) where
-  pub aimed_asked : length key ≡ 16 → Asked rs x key
-  aimed_asked long = record {
-    sizes = let l = 𝓐.ready.rules.laid.long in omega arith;
-    some_sets = 𝓐.ready.some_sets;
-    few_sets = 𝓐.ready.few_sets;
-    laid = 𝓐.ready.sets;
-    key_long = omega arith;
-    key_within = is.within;
-    some = λ z. 𝓐.ready.some y 𝓐.symbol (sym is.seen ∙ z);
-    room = λ z. 𝓐.room (ap (set_with (sets_seen rs x)) (sym is.seen) ∙ z);
-  }
-
   module _ {x' : Sets} {t : ℕ} (answer : Answered (sets_in rs) (rules_in rs) x x' (kernel_seen (rules_in rs) key 0) t) where
     pub target_found : Answered (sets_in rs) (rules_in rs) x x' (kernel_on rs c y) t
     target_found = subst (λ k. Answered (sets_in rs) (rules_in rs) x x' k t) is.seen answer

@@ -18,10 +18,10 @@ use Rattle.theory.proofs.Kernels.{symbol_range}
 use Rattle.table.specs.Layout.{Sets, sets_in, rules_in, kernel_seen, view_rules}
 use Rattle.table.specs.Laid.{HoldsKernel}
 use Rattle.closure.specs.Walk.{HoldsSymbols}
-use Rattle.lookup.specs.Lookup.{kernel_at, Sought}
+use Rattle.lookup.specs.Lookup.{kernel_at}
 use Rattle.lookup.proofs.SameKernel.{kernel-set}
 use Rattle.expansion.specs.Inner.{items_in, symbols_in, sets_seen, kernel_on, lacking_in, Ready}
-use Rattle.expansion.specs.Inner.{Countable, is_missing, one_if_missing, missing_in}
+use Rattle.expansion.specs.Inner.{is_missing, one_if_missing, missing_in}
 use Rattle.expansion.proofs.Rest.{rest, least, rest-next, rest-none, rest_all, rest_in}
 
 -- ---- one kernel
@@ -32,15 +32,6 @@ number-when true = refl
 number-when false = refl
 
 module _ (rs ws c : List ℕ) (y : ℕ) {key : List ℕ} (is : HoldsKernel (rules_in rs) key 0 (kernel_on rs c y)) where
-  pub countable_sought : Countable rs ws c → length key ≡ 16 → Sought rs ws key
-  countable_sought 𝓒 long = record {
-    sizes = let l = 𝓒.rules.laid.long in omega arith;
-    few_rules = 𝓒.rules.laid.few_rules;
-    kernels = 𝓒.kernels;
-    key_long = omega arith;
-    key_within = is.within;
-  }
-
   -- o is the set found
   module _ {o : ℕ} (found : o ≡ kernel_at (sets_in rs) (rules_in rs) ws (kernel_seen (rules_in rs) key 0)) where
     kernel-found : o ≡ kernel_at (sets_in rs) (rules_in rs) ws (kernel_on rs c y)

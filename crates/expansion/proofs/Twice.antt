@@ -7,7 +7,6 @@ use Rattle.theory.specs.Table.{Table, set_at}
 use Rattle.theory.specs.Expansion.{Step, collected, has_room, grown, expand}
 use Rattle.theory.proofs.Later.{still_unexpanded}
 use Rattle.table.specs.Layout.{Mem, Sets, view}
-use Rattle.table.specs.Laid.{Formed}
 use Rattle.table.specs.Becomes.{Becomes}
 use Rattle.collection.proofs.Collected.{collected-formed}
 use Rattle.expansion.specs.Expansion.{Unexpanded, Tried, Expandable, Expands}
@@ -36,9 +35,6 @@ expand_now m n s {r} 𝓣 e =
     record { done = ap (λ a. a.done) h; table = subst (λ (a : Step). Becomes m n a.table) h (𝓣.grew e) }
 
 module _ (m a : Mem) (s : ℕ) {r : Bool} (𝓔 : Expandable m s) (𝓣 : Tried m a s r) (no : r ≡ false) where
-  pub again_formed : Formed a
-  again_formed = subst Formed (sym (𝓣.stayed no)) 𝓔.is.formed
-
   module _ (b : Mem) (𝓑 : Becomes a b (collected (view a))) where
     from-m : Becomes m b (collected (view m))
     from-m = subst (λ a. Becomes a b (collected (view a))) (𝓣.stayed no) 𝓑

@@ -4,7 +4,6 @@ pub mod Reached
 pub mod Inserted
 pub mod Taken
 pub mod SameKeys
-pub mod Begun
 pub mod Gathered
 pub mod Placed
 pub mod Store

@@ -1,14 +1,14 @@
 -- The symbol that a set is reached by, read off its kernel's lowest bit. Assumes nothing.
 use mathlib.Core.Bool.{Bool, true, false}
-use mathlib.Core.Path.{◌≡◌, refl, sym, ap, ◌∙◌, subst}
+use mathlib.Core.Path.{◌≡◌, refl, sym, ap, ◌∙◌}
 use mathlib.Core.Logic.{◌≢◌}
 use mathlib.Core.List.{List, [], ◌∷◌, map}
 use Prim.Native.Nat.{ℕ, zero, suc, ◌+◌, ◌-◌, ◌*◌, ◌/◌, ◌%◌, ◌≤◌, ◌<◌}
-use native.Mathlib.Decide.{dec_lt, ℕ_discrete}
+use native.Mathlib.Decide.{dec_lt}
 use native.Mathlib.Omega.{arith}
 use lib.Dec.{eqb}
-use lib.ListN.{length, get_or, set, length-set, length-append, get_or-append, get_or-eq_default}
-use lib.Seq.{get_or-append-add, get_or-set_same, get_or-set_other}
+use lib.ListN.{length, get_or, length-append, get_or-append, get_or-eq_default}
+use lib.Seq.{get_or-append-add}
 use Rattle.laws.specs.Choice.{when}
 use Rattle.laws.specs.Lists.{keep, joinMap, up_from}
 use Rattle.kernels.specs.Kernel.{has, holds, Least, Next}
@@ -20,7 +20,7 @@ use Rattle.table.specs.Laid.{LaidRules, Formed}
 use Rattle.table.proofs.Read.{rule_read, set_read, right_read, right-length}
 use Rattle.table.proofs.Formed.{laid-rules}
 use Rattle.leftmost.specs.Shown.{before_dot, before_first, symbol_of}
-use Rattle.spans.specs.Steps.{Kernels, symbol_in, Symbols}
+use Rattle.spans.specs.Steps.{Kernels, symbol_in}
 
 -- ---- the symbol before a dot
 
@@ -158,20 +158,3 @@ module _ (rs cells ws : List ℕ) where
   pub symbol-seen : (s : ℕ) → s < sets_in rs → symbol_in rs ws s ≡ symbol_of (view (mem rs cells ws)) s
   unfolding symbol_in
   symbol-seen s h = ap (λ p. before_first (view_rules rs) p.kernel) (sym (set_read (sets_in rs) (rules_in rs) (mem rs cells ws).sets s h))
-
--- ---- one after the other
-
-pub no_symbols : (rs ws l : List ℕ) → length l ≡ 256 → Symbols rs ws 0 l
-no_symbols rs ws l e = record { long = e; each = λ s h. absurd (omega arith) }
-
-pub more-symbols : {rs ws l : List ℕ} {n x : ℕ} → n < 256 → x ≡ symbol_in rs ws n → Symbols rs ws n l → Symbols rs ws (n + 1) (set l n x)
-more-symbols {rs} {ws} {l} {n} {x} h e y = record {
-  long = length-set l n x ∙ y.long;
-  each = λ s g. elim (ℕ_discrete s n) [
-    | yes q ↦ ap (λ s. get_or (set l n x) s 0) q ∙ get_or-set_same l n x 0 (omega (arith, y.long)) ∙ e ∙ ap (symbol_in rs ws) (sym q)
-    | no d ↦ get_or-set_other l n s x 0 d ∙ y.each s (omega arith)
-  ];
-}
-
-pub all-symbols : {rs ws l : List ℕ} {m n : ℕ} → m ≡ n → Symbols rs ws m l → Symbols rs ws n l
-all-symbols {rs} {ws} {l} e y = subst (λ n. Symbols rs ws n l) e y

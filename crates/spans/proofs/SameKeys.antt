@@ -6,7 +6,6 @@ use native.Mathlib.Omega.{arith}
 use Rattle.leftmost.specs.Within.{Spans}
 use Rattle.spans.specs.Area.{key_at, end_at, Place}
 use Rattle.spans.specs.Gathered.{First, Ascending, Shows}
-use Rattle.spans.specs.Steps.{Passed}
 
 pub record SameKeys (a b : List ℕ) (count : ℕ) : Type 0 where
   pub each : (e : ℕ) → e < count → key_at b e ≡ key_at a e
@@ -20,9 +19,6 @@ module _ {a b : List ℕ} {count : ℕ} (same : SameKeys a b count) where
 
   end_same : (e : ℕ) → e < count → end_at b e ≡ end_at a e
   end_same e h = ap (λ k. k / 65536) (same.each e h)
-
-  pub same-passed : {j e : ℕ} → Passed a count j e → Passed b count j e
-  same-passed p = record { inside = p.inside; before = λ i h. omega (arith, p.before i h, end_same i (omega (arith, p.inside))) }
 
   pub same_first : {j f : ℕ} → First a count j f → First b count j f
   same_first p = record {

@@ -1,60 +1,20 @@
 -- Link after link taken: the places have the keys of the links so far, and no others. Assumes nothing.
-use mathlib.Core.Bool.{Bool, true, false, not}
-use mathlib.Core.Path.{◌≡◌, refl, sym, ap, ◌∙◌, subst}
+use mathlib.Core.Bool.{Bool, true, false}
+use mathlib.Core.Path.{◌≡◌, refl, sym, subst}
 use mathlib.Core.Logic.{⊎_elim}
 use mathlib.Core.List.Memᴰ
 use mathlib.Core.List.Memᴰ.{head as here}
 use mathlib.Core.List.Memᴰ.{tail as there}
 use mathlib.Core.List.{List, ◌∷◌}
-use Prim.Native.Nat.{ℕ, ◌+◌, ◌*◌, ◌≤◌, ◌<◌}
+use Prim.Native.Nat.{ℕ, ◌+◌}
 use native.Mathlib.Numerals.{add-one}
 use native.Mathlib.Omega.{arith}
 use lib.Dec.{T}
-use lib.ListN.{get_or}
-use Rattle.laws.proofs.Choice.{yes_of}
 use Rattle.laws.proofs.Tests.{passes, fails}
 use Rattle.symbols.specs.Symbol.{nonterminal}
 use Rattle.theory.specs.Parse.{Link}
-use Rattle.theory.proofs.Symbols.{is-nonterminal}
-use Rattle.links.specs.Records.{source, under, position, in_set, link_of, links_in}
-use Rattle.spans.specs.Area.{key_of}
-use Rattle.spans.specs.Steps.{Has, Inserts, Readable, symbol_to, key_to, Takes, Of, Taken}
-
--- ---- one link
-
--- the numbers that are read of link k are those of `link_of`
-pub node_end : (b : List ℕ) (k : ℕ) {node end : ℕ} → node ≡ source b k → end ≡ get_or b (node * 6 + 3) 0 → Readable b k → end < 256
-node_end b k p q r = let e = q ∙ ap (position b) p in omega (arith, r.end)
-
-pub below-start : (b : List ℕ) (k : ℕ) {below start : ℕ} → below ≡ under b k → start ≡ get_or b (below * 6 + 3) 0 → Readable b k → start < 256
-below-start b k p q r = let e = q ∙ ap (position b) p in omega (arith, r.start)
-
-module _ (b sy : List ℕ) (k : ℕ) {node s : ℕ} (node_is : node ≡ source b k) (set_is : s ≡ get_or b (node * 6 + 4) 0) where
-  its_set : s ≡ in_set b (source b k)
-  its_set = set_is ∙ ap (in_set b) node_is
-
-  pub set-small : Readable b k → s < 256
-  set-small r = omega (arith, its_set, r.set)
-
-  its_symbol : get_or sy s 0 ≡ symbol_to sy (link_of b k)
-  its_symbol = ap (λ s. get_or sy s 0) its_set
-
-  pub take-other : {a : List ℕ} {count : ℕ} → nonterminal (get_or sy s 0) ≡ false → Takes sy (link_of b k) a a count count
-  take-other e =
-      let n = fails (ap nonterminal (sym its_symbol) ∙ e) in
-      record { span = λ t. absurd (n t); other = λ n. (refl, refl) }
-
-  pub take-span : {a c : List ℕ} {count after end below start key : ℕ} → nonterminal (get_or sy s 0) ≡ true → end ≡ get_or b (node * 6 + 3) 0 → below ≡ under b k
-      → start ≡ get_or b (below * 6 + 3) 0 → key ≡ key_of (get_or sy s 0) start end → Inserts a c count key after → Takes sy (link_of b k) a c count after
-  take-span {a} {c} {count} {after} e p q r is i =
-      let t = passes (ap nonterminal (sym its_symbol) ∙ e) in
-      let same : _ ≡ key_to sy (link_of b k) = is ∙ (λ z. key_of (its_symbol z) ((r ∙ ap (position b) q) z) ((p ∙ ap (position b) node_is) z)) in
-      record { span = λ t. subst (λ key. Inserts a c count key after) same i; other = λ n. absurd (n t) }
-
-pub symbol_low : {r : Bool} (x : ℕ) → r ≡ nonterminal x → not r ≡ false → x ≤ 127
-symbol_low x e h = ((is-nonterminal x).0 (passes (yes_of e h))).1
-
--- ---- link after link
+use Rattle.links.specs.Records.{link_of, links_in}
+use Rattle.spans.specs.Steps.{Has, Inserts, symbol_to, key_to, Takes, Of, Taken}
 
 pub none_taken : (sy b a : List ℕ) → Taken sy (links_in b 0) a 0
 unfolding links_in
@@ -109,6 +69,3 @@ unfolding links_in
 link_taken b k {sy} {a} {c} {count} {after} taken takes =
     subst (λ n. Taken sy (links_in b n) c after) (sym (add-one k))
     (taken_more taken (subst (λ n. Takes sy (link_of b n) a c count after) (add-one k) takes))
-
-pub all_taken : (b : List ℕ) {sy a : List ℕ} {k l count : ℕ} → k ≡ l → Taken sy (links_in b k) a count → Taken sy (links_in b l) a count
-all_taken b {sy} {a} {count = count} q t = subst (λ l. Taken sy (links_in b l) a count) q t
