@@ -11,8 +11,10 @@ use lib.ListN.{length, get_or, set, length-set, replicate, get_or-replicate, get
 use lib.Seq.{get_or-set_same, get_or-set_other}
 use Rattle.laws.specs.Choice.{when}
 use Rattle.laws.specs.Lists.{firstIn}
-use Rattle.kernels.specs.Kernel.{Next}
-use Rattle.std.specs.Prelude.{Option, Some, None}
+use Rattle.kernels.specs.Bits.{Over, GivesBit}
+use Rattle.kernels.specs.declared.bits.Bits.{Bits}
+use Rattle.kernels.proofs.KernelWalk.{over_still}
+use Rattle.std.specs.Prelude.{Some, None}
 use Rattle.laws.proofs.Tables.{length_tab}
 use Rattle.theory.specs.Table.{Transition, SetPlace, no_transition}
 use Rattle.theory.specs.Form.{InUse}
@@ -40,19 +42,20 @@ look_none : (k : ℕ) → lookup [] k ≡ 0
 unfolding lookup
 look_none k = refl
 
--- The sets x and the row are what the symbols below `from` have made of x₀; what the model makes of x₀ is what it makes of x by the rest
-pub record LeadFrom (rs : List ℕ) (x₀ : Sets) (c bits : List ℕ) (from : ℕ) (x : Sets) (row : List ℕ) : Type 0 where
-  pub inside : from ≤ 128
+-- The sets x and the row are what the symbols that the walk b has passed have made of x₀; what the model makes of x₀ is what it makes
+-- of x by the rest
+pub record LeadFrom (rs : List ℕ) (x₀ : Sets) (c bits : List ℕ) (b : Bits) (x : Sets) (row : List ℕ) : Type 0 where
+  pub over : Over bits 0 2 b
   pub ready : Ready rs x c
-  pub room : RoomIn rs c (rest bits from) (sets_seen rs x)
-  pub sets : (led_from rs x₀ c).sets ≡ (leading_in rs c (rest bits from) (sets_seen rs x)).sets
+  pub room : RoomIn rs c (rest bits b.from) (sets_seen rs x)
+  pub sets : (led_from rs x₀ c).sets ≡ (leading_in rs c (rest bits b.from) (sets_seen rs x)).sets
   pub cells : (k : ℕ) → sets_in rs * 128 ≤ k → get_or x.cells k 0 ≡ get_or x₀.cells k 0
   pub words : (k : ℕ) → sets_in rs * 18 ≤ k → get_or x.words k 0 ≡ get_or x₀.words k 0
   pub long : length row ≡ 128
-  pub ahead : (k : ℕ) → from ≤ k → get_or row k 0 ≡ 0
+  pub ahead : (k : ℕ) → b.from ≤ k → get_or row k 0 ≡ 0
   pub noted : (k : ℕ) → get_or row k 0 ≢ 0 → lookup (led_from rs x₀ c).transitions k ≡ get_or row k 0
   pub still : (k : ℕ) → get_or row k 0 ≡ 0
-      → lookup (led_from rs x₀ c).transitions k ≡ lookup (leading_in rs c (rest bits from) (sets_seen rs x)).transitions k
+      → lookup (led_from rs x₀ c).transitions k ≡ lookup (leading_in rs c (rest bits b.from) (sets_seen rs x)).transitions k
 
 -- ---- one symbol
 
@@ -83,12 +86,12 @@ no_targets k = elim (dec_lt k 128) [
 ]
 
 module _ (rs : List ℕ) (x₀ : Sets) (c bits : List ℕ) (𝓛 : Leadable rs x₀ c bits) where
-  pub lead_start : LeadFrom rs x₀ c bits 1 x₀ (replicate 128 0)
+  pub lead_start : {b : Bits} → Over bits 0 2 b → b.from ≡ 0 → LeadFrom rs x₀ c bits b x₀ (replicate 128 0)
   unfolding led_from
-  lead_start =
-      let e = rest_all bits (view_rules rs) (items_in rs c) 𝓛.symbols in
+  lead_start o z =
+      let e = rest_all bits _ _ 𝓛.symbols z in
       record {
-        inside = omega arith;
+        over = o;
         ready = 𝓛.ready;
         room = subst (λ l. RoomIn rs c l (sets_seen rs x₀)) e 𝓛.room;
         sets = ap (λ l. (leading_in rs c l (sets_seen rs x₀)).sets) e;
@@ -100,16 +103,16 @@ module _ (rs : List ℕ) (x₀ : Sets) (c bits : List ℕ) (𝓛 : Leadable rs x
         still = λ k z. ap (λ l. lookup (leading_in rs c l (sets_seen rs x₀)).transitions k) e;
       }
 
-  module _ {from : ℕ} {x : Sets} {row : List ℕ} (so_far : LeadFrom rs x₀ c bits from x row) {f : (Option ℕ)} where
-    module _ {i : ℕ} (e : f ≡ Some i) (next : Next bits 0 2 from f) where
+  module _ {b d : Bits} {x : Sets} {row : List ℕ} (so_far : LeadFrom rs x₀ c bits b x row) where
+    module _ {i : ℕ} (g : GivesBit b (Some i) d) where
       abbrev ss : List SetPlace
       ss = sets_seen rs x
 
       abbrev tail : List ℕ
-      tail = rest bits (i + 1)
+      tail = rest bits d.from
 
       room-here : RoomIn rs c (i ∷ tail) ss
-      room-here = subst (λ l. RoomIn rs c l ss) (rest-next bits from e next) so_far.room
+      room-here = subst (λ l. RoomIn rs c l ss) (rest-next so_far.over g) so_far.room
 
       some : set_with ss (kernel_on rs c i) ≡ 0 → lowest_free ss ≢ 0
       some = room-first (view_rules rs) (items_in rs c) i tail ss so_far.ready.start room-here
@@ -117,7 +120,7 @@ module _ (rs : List ℕ) (x₀ : Sets) (c bits : List ℕ) (𝓛 : Leadable rs x
       pub lead-aims : Aimed rs x c i
       lead-aims = record {
         ready = so_far.ready;
-        symbol = rest_in bits (view_rules rs) (items_in rs c) 𝓛.symbols from e next;
+        symbol = rest_in bits _ _ 𝓛.symbols so_far.over g;
         room = some;
       }
 
@@ -138,22 +141,23 @@ module _ (rs : List ℕ) (x₀ : Sets) (c bits : List ℕ) (𝓛 : Leadable rs x
         nonzero z = good.1.not_start (sym 𝓐.at ∙ z)
 
         -- what the model makes of the sets from here on
-        on-sets : (leading_in rs c (rest bits from) ss).sets ≡ (leading_in rs c tail (sets_seen rs x')).sets
-        on-sets = ap (λ l. (leading_in rs c l ss).sets) (rest-next bits from e next) ∙ ap (λ ss. (leading_in rs c tail ss).sets) new
+        on-sets : (leading_in rs c (rest bits b.from) ss).sets ≡ (leading_in rs c tail (sets_seen rs x')).sets
+        on-sets = ap (λ l. (leading_in rs c l ss).sets) (rest-next so_far.over g) ∙ ap (λ ss. (leading_in rs c tail ss).sets) new
 
-        on_row : (k : ℕ) → lookup (leading_in rs c (rest bits from) ss).transitions k
+        on_row : (k : ℕ) → lookup (leading_in rs c (rest bits b.from) ss).transitions k
             ≡ lookup (transition i t ∷ (leading_in rs c tail (sets_seen rs x')).transitions) k
-        on_row k = ap (λ l. lookup (leading_in rs c l ss).transitions k) (rest-next bits from e next)
+        on_row k = ap (λ l. lookup (leading_in rs c l ss).transitions k) (rest-next so_far.over g)
             ∙ (λ z. lookup (transition i (sym 𝓐.at z) ∷ (leading_in rs c tail (new z)).transitions) k)
 
-        pub lead-turn : LeadFrom rs x₀ c bits (i + 1) x' (set row i t)
+        pub lead-turn : LeadFrom rs x₀ c bits d x' (set row i t)
         lead-turn =
-            let l = least bits from e next in
+            let l = least so_far.over g in
             let inside : i < 128 = l.inside in
+            let on : d.from ≡ i + 1 = g.on i refl in
             let here : get_or (set row i t) i 0 ≡ t = get_or-set_same row i t 0 (omega (arith, so_far.long)) in
             let other : (k : ℕ) → k ≢ i → get_or (set row i t) k 0 ≡ get_or row k 0 = λ k d. get_or-set_other row i k t 0 d in
             record {
-              inside = omega arith;
+              over = over_still so_far.over g;
               ready = record {
                 rules = so_far.ready.rules;
                 some_sets = so_far.ready.some_sets;
@@ -181,9 +185,9 @@ module _ (rs : List ℕ) (x₀ : Sets) (c bits : List ℕ) (𝓛 : Leadable rs x
               ];
             }
 
-    pub lead-end : f ≡ None → Next bits 0 2 from f → LedTo rs x₀ x c row
-    lead-end e next =
-        let none = rest-none bits from e next in
+    pub lead-end : GivesBit b None d → LedTo rs x₀ x c row
+    lead-end g =
+        let none = rest-none so_far.over g in
         record {
           sets = record {
             laid = so_far.ready.sets;

@@ -1,7 +1,6 @@
 -- What the steps of an expansion rely on, and what each leaves. c are the words of a closure. Assumes nothing.
 use Rattle.std.specs.Prelude.{Bool, ◌≡◌, ◌≢◌, ℕ, ◌+◌, ◌*◌, ◌≤◌, T, eqb, length, get_or}
 use mathlib.Core.List.{List, [], Memᴰ as In}
-use Rattle.laws.specs.Choice.{when}
 use Rattle.laws.specs.Lists.{keep}
 use Rattle.kernels.specs.Write.{write_words}
 use Rattle.theory.specs.Table.{Item, SetPlace}
@@ -57,9 +56,6 @@ pub record Countable (rs ws c : List ℕ) : Type 0 where
 -- no set's words have the kernel to which the symbol y leads
 abbrev pub is_missing : (rs ws c : List ℕ) (y : ℕ) → Bool
 is_missing rs ws c y = eqb (kernel_at (sets_in rs) (rules_in rs) ws (kernel_on rs c y)) 0
-
-abbrev pub one_if_missing : (rs ws c : List ℕ) (y : ℕ) → ℕ
-one_if_missing rs ws c y = when (is_missing rs ws c y) 1 0
 
 -- for how many of the symbols
 abbrev pub missing_in : (rs ws c ys : List ℕ) → ℕ

@@ -8,7 +8,7 @@ ghost use Rattle.table.specs.Laid.{FormedRules, Within, HoldsKernel};
 ghost use Rattle.lookup.specs.Lookup.{Answered};
 ghost use Rattle.expansion.specs.Inner.{kernel_on, Aimed, Leadable, LedTo, full_row, Growable, Grew};
 
-use kernels::Found;
+use kernels::Bits;
 
 // The closure of set s's kernel.
 pub fn closure_of(rules: &[u8], words: &[u64], s: usize) -> [u64; 16]
@@ -65,14 +65,10 @@ fn lead(
         (setsOf cells.new words.new) closure result }
 {
     let mut row = [0u8; 128];
-    let mut from = 1;
-    loop {
-        let Found::At(x) = kernels::next(&symbols, 0, 2, from) else {
-            return row;
-        };
+    for x in Bits::of(&symbols, 0, 2) {
         row[x] = lead_on(rules, cells, words, closure, x);
-        from = x + 1;
     }
+    row
 }
 
 // The set to which x leads: "the set with that kernel, or .. a new unexpanded set at the lowest free set number".

@@ -11,7 +11,7 @@ pub returns-then-rules-r-eq-CURRENT : goal.returns-then-rules-r-eq-CURRENT
 unfolding current_rule_of
 returns-then-rules-r-eq-CURRENT c =
     let state = state_read c.args.rules.now c.requires.0 c.args.r c.requires.1 in
-    and_on (ap (λ x. eqb x 1) (sym state) ∙ eq-eqb _ _ c.if-rules-r-eq-CURRENT.true) (ap (λ x. eqb x c.args.b.0) c.left.ensures)
+    and_on (ap (λ x. eqb x 1) (sym state) ∙ eq-eqb _ _ c.if-rules-r-eq-CURRENT.true) (c.eq.ensures ∙ ap (λ x. eqb x c.args.b.0) c.left.ensures)
 
 pub returns-else-rules-r-eq-CURRENT : goal.returns-else-rules-r-eq-CURRENT
 unfolding current_rule_of

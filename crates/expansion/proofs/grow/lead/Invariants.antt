@@ -1,5 +1,4 @@
--- `expansion::grow::lead` meets its contract. The invariant: sets and row are those of the symbols below `from`. Assumes nothing.
-use Prim.Native.Nat.{◌-◌}
+-- `expansion::grow::lead`: sets and row are those of the symbols that the walk has passed. Assumes nothing.
 use mathlib.Core.Path.{◌≡◌}
 use lib.ListN.{length}
 use Rattle.table.specs.Layout.{sets}
@@ -8,7 +7,4 @@ use Rattle.expansion.proofs.grow.lead.Given as goal
 
 abbrev pub invariant-loop-x : goal.invariant-loop-x
 invariant-loop-x l =
-    LeadFrom l.rules (sets l.initial.cells l.initial.words) l.closure l.symbols l.from (sets l.cells l.words) l.row × (length l.cells ≡ length l.initial.cells) × (length l.words ≡ length l.initial.words)
-
-abbrev pub decreases-loop-x : goal.decreases-loop-x
-decreases-loop-x l = 128 - l.from
+    LeadFrom l.rules (sets l.initial.cells l.initial.words) l.closure l.fn.symbols l.x-iterator (sets l.cells l.words) l.row × (length l.cells ≡ length l.initial.cells) × (length l.words ≡ length l.initial.words)

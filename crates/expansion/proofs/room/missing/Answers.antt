@@ -1,25 +1,22 @@
--- `expansion::room::missing` meets its contract. The invariant: n of the symbols below `from` lead to a kernel that no set has.
--- Assumes nothing.
-use native.Mathlib.Omega.{arith}
-use Rattle.expansion.proofs.Missing.{one-small, count_start, count-above, count_turn, count-end}
+-- `expansion::room::missing` meets its contract. Assumes nothing.
+use Rattle.expansion.proofs.Missing.{count_start, count-above, count_one, count_none, count-end}
 use Rattle.expansion.proofs.room.missing.Goals as goal
 
 pub loop-x-init : goal.loop-x-init
-loop-x-init c = count_start _ _ _ _ c.requires.holds_symbols
+loop-x-init c =
+    rw c.into_iter-x-iterator.ensures.into_iter_gives (count_start _ _ _ _ c.requires.holds_symbols c.of-x-items.ensures.over c.of-x-items.ensures.start)
 
-pub returns-in_default : goal.returns-in_default
-returns-in_default c =
-    count-end _ _ _ _ c.requires.holds_symbols c.loop-x.invariant c.in_default.is c.next.ensures
+pub is_missing-requires : goal.is_missing-requires
+is_missing-requires c =
+    (c.requires.countable, count-above _ _ _ _ c.requires.holds_symbols c.loop-x.invariant c.in-Some.ensures.steps)
 
-pub one_if_missing-n-requires : goal.one_if_missing-n-requires
-one_if_missing-n-requires c =
-    (c.requires.countable, count-above _ _ _ _ c.requires.holds_symbols c.loop-x.invariant c.in-At.is c.next.ensures)
-
-pub overflow_add-n : goal.overflow_add-n
-overflow_add-n c =
-    let one = one-small c.args.rules.now c.args.words.now c.args.closure c.in-At.x in
-    omega (arith, c.loop-x.invariant.inside, c.loop-x.invariant.small, c.one_if_missing-n.ensures, one)
+pub loop-x-preserved-then-is_missing : goal.loop-x-preserved-then-is_missing
+loop-x-preserved-then-is_missing c =
+    count_one _ _ _ _ c.requires.holds_symbols c.loop-x.invariant c.in-Some.ensures.steps c.if-is_missing.ensures
 
 pub loop-x-preserved : goal.loop-x-preserved
 loop-x-preserved c =
-    count_turn _ _ _ _ c.requires.holds_symbols c.loop-x.invariant c.in-At.is c.next.ensures c.one_if_missing-n.ensures
+    count_none _ _ _ _ c.requires.holds_symbols c.loop-x.invariant c.in-Some.ensures.steps c.if-is_missing.ensures
+
+pub returns : goal.returns
+returns c = count-end _ _ _ _ c.requires.holds_symbols c.loop-x.invariant c.in-None.ensures.steps

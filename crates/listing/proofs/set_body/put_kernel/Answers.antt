@@ -14,7 +14,7 @@ pub put_item-requires : goal.put_item-requires
 put_item-requires c =
     let put = c.loop-item.invariant in
     let l = putting-least put c.in-Some.ensures.steps in
-    omega (arith, l.above, l.inside, put.so_far, items-length c.args.words.now c.args.at c.loop-item.item-iterator.from put.inside)
+    omega (arith, l.above, l.inside, items-length c.args.words.now c.args.at c.loop-item.item-iterator.from put.inside)
 
 pub loop-item-preserved : goal.loop-item-preserved
 loop-item-preserved c = putting_turn c.loop-item.invariant c.in-Some.ensures.steps c.put_item.ensures

@@ -14,7 +14,7 @@ pub put_spaced-requires : goal.put_spaced-requires
 put_spaced-requires c =
     let put = c.loop-r.invariant in
     let l = putting-least put c.in-Some.ensures.steps in
-    omega (arith, l.above, l.inside, put.so_far, reductions-length c.args.words.now c.args.at c.loop-r.r-iterator.from put.inside)
+    omega (arith, l.above, l.inside, reductions-length c.args.words.now c.args.at c.loop-r.r-iterator.from put.inside)
 
 pub loop-r-preserved : goal.loop-r-preserved
 unfolding reduction_of
