@@ -30,6 +30,7 @@ pub(crate) fn make(rt: &impl Print) -> Lent {
 pub(crate) fn write_over(made: Lent, line: &[u8], start: Cursor) -> Option<Lent> {
     let mut table = made;
     let mut c = start;
+    // A `while`: how far a turn goes is what it reads.
     while c.at < line.len() {
         let (slice, second) = c.number(line)?;
         let (place, third) = second.number(line)?;
