@@ -16,7 +16,7 @@ use borrow.Author.Tests.{le-leb, lt-leb, leb-true}
 use Rattle.laws.specs.Choice.{◌and◌, when}
 use Rattle.laws.proofs.Choice.{and_left, and_right}
 use Rattle.text.specs.Text.{SPACE, NEWLINE, digit, is_digit, decimal}
-use Rattle.script.specs.Reading.{LetterAt, NumberIs, NumberAt, LineEndAt, digit_at, with_digit, more, unless_digit, ended}
+use Rattle.script.specs.Reading.{LetterAt, NumberAt, LineEndAt, digit_at, with_digit, more, unless_digit, ended}
 use Rattle.script.specs.declared.cursor.Cursor.{Cursor}
 use Rattle.script.specs.declared.cursor.Digits.{Digits}
 use Rattle.text.proofs.Decimal.{decimal_1, decimal-more, decimal-first, too_long}
@@ -203,7 +203,3 @@ module _ (line : List ℕ) (at : ℕ) (inside : at < length line) where
     digits-ended {d} {r} s q =
         subst (λ r. NumberAt line at r) (sym q)
         (number-ended d s.is (omega (arith, s.below)) s.inside (λ x h. inr (omega (arith, s.full h))))
-
-pub number_of_lem : {line : List ℕ} {at n : ℕ} {after : Cursor} {r : Option (ℕ × Cursor)} → r ≡ Some (n, after) → NumberAt line at r → NumberIs line at n after
-unfolding NumberAt
-number_of_lem {line} {at} e h = subst (λ r. NumberAt line at r) e h

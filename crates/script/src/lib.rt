@@ -2,7 +2,7 @@
 //
 // A line is read by a `Cursor`, a place in it. A step takes the cursor and the line, and hands back what it read with the
 // cursor moved on, or says that nothing of the kind stands there: `letter`, `number`, `line_end`. On them stands `read`, which
-// takes a line with its newline, or the last one without, any bytes and any number of them, to the `Command` that it asks for.
+// takes a line with its newline, or the last one without, any bytes and any number of them, to the `Command` that it asks for, or to None.
 // A command's symbols come as bytes in a buffer that the caller lends, 256 at least; the rest of the buffer stays as it was.
 //
 // `read` looks at each byte of the line at most twice, and stops at the first that is wrong, or at the 257th number. So a

@@ -1,7 +1,7 @@
 // The table that the cases start from, with numbers beyond the pools that are not zero; and the numbers written over it.
 use super::calls;
 use super::calls::Lent;
-use script::{Cursor, Number};
+use script::Cursor;
 
 // Makes the table by calls. Rules 0: 64 -> 65, 1: 65 -> 1, 2: 65 -> 2 withdrawn, 3: 64 -> 3; 4 is free. Sets:
 //
@@ -25,105 +25,45 @@ pub(crate) fn make(rt: &impl Print) -> Lent {
     ruled.parse(rt, &[2]).delete(65, 2).parse(rt, &[1])
 }
 
-// A table with numbers written over, and whether all of them could be read and have a place.
-#[derive(Clone, Copy)]
-pub struct Written {
-    pub table: Lent,
-    pub is_good: bool,
-}
-
 // Writes the numbers over that stand in the line from `start` on: slice, place and number of each, three after three, and nothing
-// else.
-pub(crate) fn write_over(made: Lent, line: &[u8], start: Cursor) -> Written {
+// else. None where one of them can't be read or has no place.
+pub(crate) fn write_over(made: Lent, line: &[u8], start: Cursor) -> Option<Lent> {
     let mut table = made;
     let mut c = start;
+    // A `while`: how far a turn goes is what it reads.
     while c.at < line.len() {
-        let Number::Is(slice, second) = c.number(line) else {
-            return Written {
-                table,
-                is_good: false,
-            };
-        };
-        let Number::Is(place, third) = second.number(line) else {
-            return Written {
-                table,
-                is_good: false,
-            };
-        };
-        let Number::Is(number, after) = third.number(line) else {
-            return Written {
-                table,
-                is_good: false,
-            };
-        };
-        let written = write(table, slice, place, number);
-        if !written.is_good {
-            return written;
-        }
-        let next = written.table;
-        table = next;
+        let (slice, second) = c.number(line)?;
+        let (place, third) = second.number(line)?;
+        let (number, after) = third.number(line)?;
+        write(&mut table, slice, place, number)?;
         c = after;
     }
-    Written {
-        table,
-        is_good: true,
+    Some(table)
+}
+
+// Writes a number over; the slices are numbered as in the file stdin.
+fn write(table: &mut Lent, slice: usize, place: usize, number: usize) -> Option<()> {
+    match slice {
+        0 => write_byte(&mut table.rules, place, number),
+        1 => write_byte(&mut table.cells, place, number),
+        2 => write_bit(&mut table.words, place, number),
+        _ => None,
     }
 }
 
-fn write(made: Lent, slice: usize, place: usize, number: usize) -> Written {
-    let mut rules = made.rules;
-    let mut cells = made.cells;
-    let mut words = made.words;
-    let is_good = match slice {
-        0 => write_byte(&mut rules, place, number),
-        1 => write_byte(&mut cells, place, number),
-        2 => write_bit(&mut words, place, number),
-        _ => false,
-    };
-    let table = Lent {
-        rules,
-        cells,
-        words,
-        answer: 0,
-        number: 0,
-    };
-    Written { table, is_good }
-}
-
-fn write_byte(bytes: &mut [u8], place: usize, number: usize) -> bool {
-    if bytes.len() <= place {
-        return false;
-    }
-    if 255 < number {
-        return false;
-    }
-    bytes[place] = number as u8;
-    true
+fn write_byte(bytes: &mut [u8], place: usize, number: usize) -> Option<()> {
+    *bytes.get_mut(place)? = u8::try_from(number).ok()?;
+    Some(())
 }
 
 // A bit is 1 or 0; sets have 1,152 each.
-fn write_bit(words: &mut [u64], place: usize, number: usize) -> bool {
-    let at = place / 64;
-    if words.len() <= at {
-        return false;
+fn write_bit(words: &mut [u64], place: usize, number: usize) -> Option<()> {
+    let word = words.get_mut(place / 64)?;
+    let bit = 1u64 << (place % 64);
+    match number {
+        0 => *word &= !bit,
+        1 => *word |= bit,
+        _ => return None,
     }
-    if 1 < number {
-        return false;
-    }
-    words[at] = with_bit(words[at], place % 64, number);
-    true
-}
-
-fn with_bit(word: u64, bit: usize, number: usize) -> u64 {
-    if bit >= 64 {
-        return word;
-    }
-    let one = 1u64 << bit;
-    if number == 1 {
-        return word | one;
-    }
-    if word & one == 0 {
-        return word;
-    }
-    word ^ one
+    Some(())
 }

@@ -33,153 +33,112 @@ pub struct Lent {
 }
 
 impl Lent {
-    pub fn is_formed(self) -> bool
-        ensures { Tells result (Formed (mem self.rules self.cells self.words)) }
+    pub fn is_formed(&self) -> bool
+        ensures { Tells result (Formed (mem self.now.rules self.now.cells self.now.words)) }
     {
-        let rules = self.rules;
-        let cells = self.cells;
-        let words = self.words;
-        form::is_formed(&rules, &cells, &words)
+        form::is_formed(&self.rules, &self.cells, &self.words)
     }
 
-    pub fn new(self, sets: usize, places: usize) -> Lent
+    pub fn new(mut self, sets: usize, places: usize) -> Lent
         ensures { NewPromised
             (mem self.rules self.cells self.words) (mem result.rules result.cells result.words) sets places result.answer }
     {
-        let mut rules = self.rules;
-        let mut cells = self.cells;
-        let mut words = self.words;
-        let answer = generator::new(&mut rules, &mut cells, &mut words, sets, places);
-        Lent {
-            rules,
-            cells,
-            words,
-            answer: answer.number(),
-            number: 0,
-        }
+        let answer = generator::new(
+            &mut self.rules,
+            &mut self.cells,
+            &mut self.words,
+            sets,
+            places,
+        );
+        self.answer = answer.number();
+        self.number = 0;
+        self
     }
 
-    pub fn add(self, left: u8, right: u8) -> Lent
+    pub fn add(mut self, left: u8, right: u8) -> Lent
         ensures { Promised (λ t. add t left (right ∷ []))
             (mem self.rules self.cells self.words) (mem result.rules result.cells result.words) result.answer result.number }
     {
-        let mut rules = self.rules;
-        let mut cells = self.cells;
-        let mut words = self.words;
-        let changed = generator::add(&mut rules, &mut cells, &mut words, left, &[right]);
-        let answer = changed.answer;
-        Lent {
-            rules,
-            cells,
-            words,
-            answer: answer.number(),
-            number: changed.rule,
-        }
+        let changed = generator::add(
+            &mut self.rules,
+            &mut self.cells,
+            &mut self.words,
+            left,
+            &[right],
+        );
+        self.answer = changed.answer.number();
+        self.number = changed.rule;
+        self
     }
 
-    pub fn delete(self, left: u8, right: u8) -> Lent
+    pub fn delete(mut self, left: u8, right: u8) -> Lent
         ensures { Promised (λ t. delete t left (right ∷ []))
             (mem self.rules self.cells self.words) (mem result.rules result.cells result.words) result.answer result.number }
     {
-        let mut rules = self.rules;
-        let mut cells = self.cells;
-        let mut words = self.words;
-        let changed = generator::delete(&mut rules, &mut cells, &mut words, left, &[right]);
-        let answer = changed.answer;
-        Lent {
-            rules,
-            cells,
-            words,
-            answer: answer.number(),
-            number: changed.rule,
-        }
+        let changed = generator::delete(
+            &mut self.rules,
+            &mut self.cells,
+            &mut self.words,
+            left,
+            &[right],
+        );
+        self.answer = changed.answer.number();
+        self.number = changed.rule;
+        self
     }
 
-    pub fn collect(self) -> Lent
+    pub fn collect(mut self) -> Lent
         ensures { Promised collect
             (mem self.rules self.cells self.words) (mem result.rules result.cells result.words) result.answer result.number }
     {
-        let mut rules = self.rules;
-        let mut cells = self.cells;
-        let mut words = self.words;
-        let answer = generator::collect(&mut rules, &mut cells, &mut words);
-        Lent {
-            rules,
-            cells,
-            words,
-            answer: answer.number(),
-            number: 0,
-        }
+        let answer = generator::collect(&mut self.rules, &mut self.cells, &mut self.words);
+        self.answer = answer.number();
+        self.number = 0;
+        self
     }
 
-    pub fn restart(self) -> Lent
+    pub fn restart(mut self) -> Lent
         ensures { Promised restart
             (mem self.rules self.cells self.words) (mem result.rules result.cells result.words) result.answer result.number }
     {
-        let mut rules = self.rules;
-        let mut cells = self.cells;
-        let mut words = self.words;
-        let answer = generator::restart(&mut rules, &mut cells, &mut words);
-        Lent {
-            rules,
-            cells,
-            words,
-            answer: answer.number(),
-            number: 0,
-        }
+        let answer = generator::restart(&mut self.rules, &mut self.cells, &mut self.words);
+        self.answer = answer.number();
+        self.number = 0;
+        self
     }
 
     // Over a link buffer that is not zero. Where what is printed of it can't be written, nor can the line that follows.
-    pub fn parse(self, rt: &impl Print, line: &[u8]) -> Lent
+    pub fn parse(mut self, rt: &impl Print, line: &[u8]) -> Lent
         ensures { Promised (λ t. parse t 8 line.now)
             (mem self.rules self.cells self.words) (mem result.rules result.cells result.words) result.answer result.number }
     {
-        let mut rules = self.rules;
-        let mut cells = self.cells;
-        let mut words = self.words;
         let mut links = [7u16; LINKS];
-        let verdict = recogniser::parse(&mut rules, &mut cells, &mut words, &mut links, POOL, line);
-        let told = verdict.answer;
-        let answer = told.number();
-        let _ = print_links(rt, &links, answer);
-        Lent {
-            rules,
-            cells,
-            words,
-            answer,
-            number: verdict.links,
-        }
+        let verdict = recogniser::parse(
+            &mut self.rules,
+            &mut self.cells,
+            &mut self.words,
+            &mut links,
+            POOL,
+            line,
+        );
+        self.answer = verdict.answer.number();
+        self.number = verdict.links;
+        let _ = print_links(rt, &links, self.answer);
+        self
     }
 }
 
 // Prints `!` where Parse left the link buffer wrong. A refused parse leaves it as it was, any other leaves the pool's part zero;
 // beyond it nothing is touched.
-fn print_links(rt: &impl Print, links: &[u16], answer: u8) -> io::Result<()> {
-    let end = (POOL + 1) * links::RECORD;
-    if !all_are(links, end, LINKS, 7) {
-        return rt.write_all(b"!");
-    }
-    if 10 <= answer && answer < 20 {
-        return print_wrong(rt, all_are(links, 0, end, 7));
-    }
-    print_wrong(rt, all_are(links, 0, end, 0))
-}
-
-fn print_wrong(rt: &impl Print, right: bool) -> io::Result<()> {
-    if !right {
+fn print_links(rt: &impl Print, links: &[u16; LINKS], answer: u8) -> io::Result<()> {
+    let (pool, beyond) = links.split_at((POOL + 1) * links::RECORD);
+    let left = if 10 <= answer && answer < 20 { 7 } else { 0 };
+    if !all_are(pool, left) || !all_are(beyond, 7) {
         rt.write_all(b"!")?;
     }
     Ok(())
 }
 
-// Whether the numbers from `from` to `to` are all x.
-fn all_are(numbers: &[u16], from: usize, to: usize, x: u16) -> bool {
-    let mut i = from;
-    while i < to && i < numbers.len() {
-        if numbers[i] != x {
-            return false;
-        }
-        i += 1;
-    }
-    true
+fn all_are(numbers: &[u16], x: u16) -> bool {
+    numbers.iter().all(|&n| n == x)
 }

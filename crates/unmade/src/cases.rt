@@ -2,10 +2,9 @@
 ghost use Rattle.std.specs.Prelude.{◌≤◌, length, IfOk};
 
 use super::{base, tried};
-use script::{Cursor, Letter};
+use script::Cursor;
 use std::io;
 use std::io::Read;
-use text::newline;
 
 // The most bytes of standard input that are read.
 const LARGEST: usize = 65536;
@@ -34,11 +33,8 @@ fn read_full(rt: &impl Input, text: &mut [u8]) -> io::Result<usize>
 }
 
 fn each_line(rt: &impl Print, text: &[u8]) -> io::Result<()> {
-    let mut at: usize = 0;
-    while at < text.len() {
-        let end = newline(text, at, text.len());
-        obey(rt, &text[at..end])?;
-        at = end + 1;
+    for line in text.split_inclusive(|&b| b == b'\n') {
+        obey(rt, line.strip_suffix(b"\n").unwrap_or(line))?;
     }
     Ok(())
 }
@@ -46,8 +42,10 @@ fn each_line(rt: &impl Print, text: &[u8]) -> io::Result<()> {
 // `# NAME` is what the next case's line starts with, other lines with # are for the reader, and any else is a case. One that is none
 // is printed, so that the output is not what it is held to.
 fn obey(rt: &impl Print, line: &[u8]) -> io::Result<()> {
-    if 2 <= line.len() && line[0] == b'#' {
-        return print_name(rt, line);
+    match line {
+        [b'#', b' ', name @ ..] => return rt.write_all(name),
+        [b'#', _, ..] => return Ok(()),
+        _ => {}
     }
     if !try_case(rt, line)? {
         rt.write_all(b"? ")?;
@@ -57,28 +55,14 @@ fn obey(rt: &impl Print, line: &[u8]) -> io::Result<()> {
     Ok(())
 }
 
-fn print_name(rt: &impl Print, line: &[u8]) -> io::Result<()>
-    requires { 2 ≤ length line.now }
-{
-    if line[1] == b' ' {
-        rt.write_all(&line[2..])?;
-    }
-    Ok(())
-}
-
 // Tries every call on the table that a line `T` with its numbers gives; says whether the line is that.
 fn try_case(rt: &impl Print, line: &[u8]) -> io::Result<bool> {
-    let Letter::Is(letter, start) = Cursor::START.letter(line) else {
+    let Some((b'T', start)) = Cursor::START.letter(line) else {
         return Ok(false);
     };
-    if letter != b'T' {
+    let Some(table) = base::write_over(base::make(rt), line, start) else {
         return Ok(false);
-    }
-    let written = base::write_over(base::make(rt), line, start);
-    if !written.is_good {
-        return Ok(false);
-    }
-    let table = written.table;
-    tried::every_call(rt, table)?;
+    };
+    tried::every_call(rt, &table)?;
     Ok(true)
 }

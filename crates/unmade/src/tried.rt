@@ -2,19 +2,19 @@
 use super::calls::Lent;
 use std::io;
 
-pub(crate) fn every_call(rt: &impl Print, t: Lent) -> io::Result<()> {
+pub(crate) fn every_call(rt: &impl Print, t: &Lent) -> io::Result<()> {
     print_formed(rt, t)?;
-    print_call(rt, b'N', t, t.new(2, 3))?;
-    print_call(rt, b'A', t, t.add(64, 2))?; // a START rule, so that set 0's kernel changes
-    print_call(rt, b'D', t, t.delete(65, 1))?;
-    print_call(rt, b'G', t, t.collect())?;
-    print_call(rt, b'R', t, t.restart())?;
-    print_call(rt, b'P', t, t.parse(rt, &[1]))?;
-    print_call(rt, b'P', t, t.parse(rt, &[1, 1]))?;
+    print_call(rt, b'N', t, &t.new(2, 3))?;
+    print_call(rt, b'A', t, &t.add(64, 2))?; // a START rule, so that set 0's kernel changes
+    print_call(rt, b'D', t, &t.delete(65, 1))?;
+    print_call(rt, b'G', t, &t.collect())?;
+    print_call(rt, b'R', t, &t.restart())?;
+    print_call(rt, b'P', t, &t.parse(rt, &[1]))?;
+    print_call(rt, b'P', t, &t.parse(rt, &[1, 1]))?;
     rt.write_all(b"\n")
 }
 
-fn print_formed(rt: &impl Print, t: Lent) -> io::Result<()> {
+fn print_formed(rt: &impl Print, t: &Lent) -> io::Result<()> {
     rt.write_all(b": F ")?;
     if t.is_formed() {
         return rt.write_all(b"1");
@@ -23,7 +23,7 @@ fn print_formed(rt: &impl Print, t: Lent) -> io::Result<()> {
 }
 
 // Prints a call's letter and its answers, and what it left of the table t.
-fn print_call(rt: &impl Print, letter: u8, t: Lent, left: Lent) -> io::Result<()> {
+fn print_call(rt: &impl Print, letter: u8, t: &Lent, left: &Lent) -> io::Result<()> {
     rt.write_all(&[b' ', letter])?;
     print_number(rt, left.answer as usize)?;
     if letter == b'A' || letter == b'D' || letter == b'P' {
@@ -36,9 +36,8 @@ fn print_number(rt: &impl Print, n: usize) -> io::Result<()> {
     print!(rt; " {n}")
 }
 
-fn print_left(rt: &impl Print, t: Lent, left: Lent) -> io::Result<()> {
-    let rules = left.rules;
-    if !same_beyond(t, left, rules[0], rules[1]) {
+fn print_left(rt: &impl Print, t: &Lent, left: &Lent) -> io::Result<()> {
+    if !same_beyond(t, left, left.rules[0], left.rules[1]) {
         return rt.write_all(b"!");
     }
     if same(t, left, 0, 0, 0) {
@@ -53,7 +52,7 @@ fn print_left(rt: &impl Print, t: Lent, left: Lent) -> io::Result<()> {
 }
 
 // Whether the numbers beyond pools of these sizes are the same.
-fn same_beyond(t: Lent, left: Lent, sets: u8, places: u8) -> bool {
+fn same_beyond(t: &Lent, left: &Lent, sets: u8, places: u8) -> bool {
     let sets = sets as usize;
     let places = places as usize;
     same(
@@ -66,42 +65,12 @@ fn same_beyond(t: Lent, left: Lent, sets: u8, places: u8) -> bool {
 }
 
 // Whether the two have the same numbers, from these places on.
-fn same(a: Lent, b: Lent, rule: usize, cell: usize, word: usize) -> bool {
-    let rules = a.rules;
-    let cells = a.cells;
-    let words = a.words;
-    let other_rules = b.rules;
-    let other_cells = b.cells;
-    let other_words = b.words;
-    if !same_bytes(&rules, &other_rules, rule) {
-        return false;
-    }
-    if !same_bytes(&cells, &other_cells, cell) {
-        return false;
-    }
-    same_words(&words, &other_words, word)
+fn same(a: &Lent, b: &Lent, rule: usize, cell: usize, word: usize) -> bool {
+    same_from(&a.rules, &b.rules, rule)
+        && same_from(&a.cells, &b.cells, cell)
+        && same_from(&a.words, &b.words, word)
 }
 
-// Whether the two have the same bytes from `from` on.
-fn same_bytes(a: &[u8], b: &[u8], from: usize) -> bool {
-    let mut i = from;
-    while i < a.len() && i < b.len() {
-        if a[i] != b[i] {
-            return false;
-        }
-        i += 1;
-    }
-    true
-}
-
-// Whether the two have the same words from `from` on.
-fn same_words(a: &[u64], b: &[u64], from: usize) -> bool {
-    let mut i = from;
-    while i < a.len() && i < b.len() {
-        if a[i] != b[i] {
-            return false;
-        }
-        i += 1;
-    }
-    true
+fn same_from<T: PartialEq>(a: &[T], b: &[T], from: usize) -> bool {
+    a.get(from..) == b.get(from..)
 }

@@ -4,4 +4,4 @@ use Rattle.unmade.proofs.calls.Lent.parse.Goals as goal
 
 pub returns : goal.returns
 unfolding when
-returns g c = simp c.number-answer.ensures c.parse-verdict.ensures.promised
+returns g c = simp c.number.ensures c.parse-verdict.ensures.promised
