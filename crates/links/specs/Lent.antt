@@ -3,9 +3,14 @@ use Rattle.std.specs.Prelude.{◌≡◌, ℕ}
 use Rattle.links.specs.declared.Here.{Here}
 use Rattle.links.specs.declared.Links.{Links}
 use Rattle.links.specs.Records.{Graph, graph}
+use Rattle.links.specs.Held.{Chained}
 
 abbrev pub graph_of : Links → Graph
 graph_of x = graph x.buf.now x.at.now x.counts
+
+-- a walk along the chains of its links stays inside
+abbrev pub InChains : Links → Type 0
+InChains x = Chained x.buf.now x.counts.nodes x.counts.links
 
 -- the same slices are lent, whatever they hold now
 pub record SameSlices (x y : Links) : Type 0 where

@@ -17,8 +17,8 @@
 ghost use Rattle.std.specs.Prelude.{◌≡◌, ◌+◌, ◌*◌, ◌<◌, ◌≤◌, length, get_or, set};
 ghost use Rattle.laws.specs.Choice.{Tells};
 ghost use Rattle.links.specs.Records.{source, under, previous, position, in_set, last_link, counts, put_node, put_link};
-ghost use Rattle.links.specs.Held.{Edge, Chained, Held, FindsAt, NodeOf, Adds, Cleared};
-ghost use Rattle.links.specs.Lent.{graph_of, SameSlices, root};
+ghost use Rattle.links.specs.Held.{Edge, Held, FindsAt, NodeOf, Adds, Cleared};
+ghost use Rattle.links.specs.Lent.{graph_of, InChains, SameSlices, root};
 
 // The numbers of a record.
 pub const RECORD: usize = 6;
@@ -97,7 +97,11 @@ impl<'a> Links<'a> {
         ensures same_here { self.new.here ≡ self.old.here }
         ensures adds { Adds self.old.here s m (graph_of self.old) (graph_of self.new) }
     {
-        let Counts { nodes, links, over: _ } = self.counts;
+        let Counts {
+            nodes,
+            links,
+            over: _,
+        } = self.counts;
         match self.node_of(s) {
             Some(n) => {
                 if self.has_link(n, m) {
@@ -125,7 +129,7 @@ impl<'a> Links<'a> {
 
     // Whether a link goes from node n to node m.
     fn has_link(&self, n: usize, m: usize) -> bool
-        requires chained { Chained self.now.buf.now self.now.counts.nodes self.now.counts.links }
+        requires chained { InChains self.now }
         requires n_lt_nodes { n < self.now.counts.nodes }
         ensures { Tells result (Edge self.now.buf.now self.now.counts.links n m) }
     {
