@@ -5,3 +5,4 @@ pub mod Kept
 pub mod Listed
 pub mod Added
 pub mod Root
+pub mod Lent

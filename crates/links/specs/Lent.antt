@@ -17,6 +17,11 @@ pub record SameSlices (x y : Links) : Type 0 where
   pub buf : y.buf.ghost_name ≡ x.buf.ghost_name
   pub at : y.at.ghost_name ≡ x.at.ghost_name
 
+-- and the position at hand is the same
+pub record SamePlace (x y : Links) : Type 0 where
+  pub slices : SameSlices x y
+  pub here : y.here ≡ x.here
+
 -- the position of the root
 abbrev pub root : ℕ → ℕ → Here
 root size sets = record { position = 0; start = 0; size = size; sets = sets }

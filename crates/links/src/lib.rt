@@ -18,7 +18,7 @@ ghost use Rattle.std.specs.Prelude.{◌≡◌, ◌+◌, ◌*◌, ◌<◌, ◌≤
 ghost use Rattle.laws.specs.Choice.{Tells};
 ghost use Rattle.links.specs.Records.{source, under, previous, position, in_set, last_link, counts, put_node, put_link};
 ghost use Rattle.links.specs.Held.{Edge, Held, FindsAt, NodeOf, Adds, Cleared};
-ghost use Rattle.links.specs.Lent.{graph_of, InChains, SameSlices, root};
+ghost use Rattle.links.specs.Lent.{graph_of, InChains, SamePlace, root};
 
 // The numbers of a record.
 pub const RECORD: usize = 6;
@@ -93,8 +93,7 @@ impl<'a> Links<'a> {
     pub fn add_link(&mut self, s: usize, m: usize)
         requires held { Held self.old.here (graph_of self.old) }
         requires m_lt_nodes { (m < self.old.counts.nodes) × (s < self.old.here.sets) }
-        ensures same_slices { SameSlices self.old self.new }
-        ensures same_here { self.new.here ≡ self.old.here }
+        ensures same { SamePlace self.old self.new }
         ensures adds { Adds self.old.here s m (graph_of self.old) (graph_of self.new) }
     {
         let Counts {
@@ -127,6 +126,14 @@ impl<'a> Links<'a> {
         self.counts.links = links + 1;
     }
 
+    // The set of node n.
+    pub fn set_of(&self, n: usize) -> usize
+        requires { n * 6 + 5 < length self.now.buf.now }
+        ensures { result ≡ in_set self.now.buf.now n }
+    {
+        set_of(self.buf, n)
+    }
+
     // Whether a link goes from node n to node m.
     fn has_link(&self, n: usize, m: usize) -> bool
         requires chained { InChains self.now }
@@ -150,7 +157,7 @@ impl<'a> Links<'a> {
         ensures { NodeOf self.now.buf.now self.now.here.start self.now.counts.nodes s result }
     {
         let n = number(self.at, s);
-        if self.here.start <= n && n < self.counts.nodes && set_of(self.buf, n) == s {
+        if self.here.start <= n && n < self.counts.nodes && self.set_of(n) == s {
             return Some(n);
         }
         None
