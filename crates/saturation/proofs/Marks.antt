@@ -1,14 +1,13 @@
 -- The marks of the sets at this position: the accept mark, and the lowest unexpanded set. Assumes nothing.
 use mathlib.Core.Bool.{Bool, true, false}
-use mathlib.Core.Path.{◌≡◌, refl, sym, ◌∙◌, ap, subst}
+use mathlib.Core.Path.{◌≡◌, sym, ◌∙◌, ap, subst}
 use mathlib.Core.Logic.{◌≢◌, ◌↔◌}
-use mathlib.Core.List.{List, Memᴰ as In}
+use mathlib.Core.List.{Memᴰ as In}
 use Prim.Native.Nat.{ℕ, ◌+◌, ◌*◌, ◌≤◌, ◌<◌}
-use native.Mathlib.Decide.{ℕ_discrete}
 use native.Mathlib.Omega.{arith}
 use lib.Dec.{T}
 use lib.ListN.{get_or}
-use Rattle.std.specs.Prelude.{Option, Some, None}
+use Rattle.std.specs.Prelude.{None}
 use Rattle.laws.specs.Choice.{Tells}
 use Rattle.laws.proofs.Tests.{eqb_iff}
 use Rattle.theory.specs.Table.{UNEXPANDED, SetPlace, set_at}
@@ -78,44 +77,3 @@ module _ (m : Mem) {h : Here} {x : Graph} (H : Held h x) (few : h.sets ≡ sets_
         unexpanded = subst (λ u. (set_at (view m).sets u).state ≡ UNEXPANDED) is ((unexpanded_iff m (in_set x.buf n) (set-low H few n low)).1 mark);
         least = λ v l i e. let (k, g, o, q, a) = marked_of v i e in let b = L.least k g o a in omega arith;
       }
-
--- ---- the walks over the nodes: at node m, whose set is v
-
--- what holds of the nodes below m, and of m
-each : {lo m : ℕ} (P : ℕ → Type 0) → ((n : ℕ) → lo ≤ n → n < m → P n) → P m → (n : ℕ) → lo ≤ n → n < m + 1 → P n
-each {lo} {m} P f h n a l = elim (ℕ_discrete n m) [ yes e ↦ subst P (sym e) h | no e ↦ f n a (omega arith) ]
-
-module _ (b cells : List ℕ) (lo m v : ℕ) (is : v ≡ in_set b m) where
-  cell_is : get_or cells (v * 128) 0 ≡ get_or cells (in_set b m * 128) 0
-  cell_is = ap (λ u. get_or cells (u * 128) 0) is
-
-  -- no mark k so far
-  pub unmarked-next : {k : ℕ} → (Marked b cells lo m k → ⊥) → get_or cells (v * 128) 0 ≢ k → Marked b cells lo (m + 1) k → ⊥
-  unmarked-next f d w = elim (ℕ_discrete w.m m) [
-    | yes z ↦ d (cell_is ∙ ap (λ n. get_or cells (in_set b n * 128) 0) (sym z) ∙ w.mark)
-    | no z ↦ f (record { m = w.m; from = w.from; low = let l = w.low in omega arith; mark = w.mark })
-  ]
-
-  -- the lowest so far
-  pub lowest_same : (best : Option ℕ) → get_or cells (v * 128) 0 ≢ 1 → LowestIn b cells lo m best → LowestIn b cells lo (m + 1) best
-  lowest_same None d L = each (λ n. get_or cells (in_set b n * 128) 0 ≢ 1) L (λ z. d (cell_is ∙ z))
-  lowest_same (Some r) d L = record {
-    hit = let (n, a, l, e, q) = L.hit in (n, a, omega arith, e, q);
-    least = each (λ n. get_or cells (in_set b n * 128) 0 ≡ 1 → r ≤ in_set b n) L.least (λ z. absurd (d (cell_is ∙ z)));
-  }
-
-  pub lowest_kept : {r : ℕ} → r ≤ v → LowestIn b cells lo m (Some r) → LowestIn b cells lo (m + 1) (Some r)
-  lowest_kept {r} g L = record {
-    hit = let (n, a, l, e, q) = L.hit in (n, a, omega arith, e, q);
-    least = each (λ n. get_or cells (in_set b n * 128) 0 ≡ 1 → r ≤ in_set b n) L.least (λ z. omega arith);
-  }
-
-  pub lowest_new : (best : Option ℕ) → lo ≤ m → get_or cells (v * 128) 0 ≡ 1 → ((r : ℕ) → best ≡ Some r → v < r) → LowestIn b cells lo m best → LowestIn b cells lo (m + 1) (Some v)
-  lowest_new best g e low L = record {
-    hit = (m, g, omega arith, sym is, sym cell_is ∙ e);
-    least = each (λ n. get_or cells (in_set b n * 128) 0 ≡ 1 → v ≤ in_set b n) (before best low L) (λ z. omega arith);
-  }
-    where
-      before : (best : Option ℕ) → ((r : ℕ) → best ≡ Some r → v < r) → LowestIn b cells lo m best → (n : ℕ) → lo ≤ n → n < m → get_or cells (in_set b n * 128) 0 ≡ 1 → v ≤ in_set b n
-      before None low L n a l z = absurd (L n a l z)
-      before (Some r) low L n a l z = let q = L.least n a l z in let p = low r refl in omega arith

@@ -151,11 +151,6 @@ clash p q = omega arith
 works_nothing : {t : Table} {h : Here} {x : Graph} {W : Graph → Link → Type 0} → Held h x → ((l : Link) → W x l → ⊥) → Works t h W x x
 works_nothing {x = x} H f = record { held = H; grown = grown_refl x; there = λ o e l w. absurd (f l w); keeps = λ ls g. g }
 
--- a bit of node n's set u, as the node's set in a later graph
-pub bit_now : {t : Table} {h : Here} {x y : Graph} {W : Graph → Link → Type 0} (ws : List ℕ) (n u r : ℕ) → u ≡ in_set x.buf n → n < x.nodes → Works t h W x y
-    → has ws (u * 18) (1024 + r) ≡ 1 → has ws (in_set y.buf n * 18) (1024 + r) ≡ 1
-bit_now ws n u r is i D e = ap (λ s. has ws (s * 18) (1024 + r)) (D.grown.set_same n i ∙ sym is) ∙ e
-
 -- a reduction of node n, of set u, that the set has not
 no-rule : {m : Mem} {p n u : ℕ} {x y : Graph} {c : ℕ} {l : Link} → u ≡ in_set x.buf n → n < x.nodes → Grown x y → (w : AtNode m p n c y l)
     → has m.sets.words (u * 18) (1024 + w.r) ≡ 0 → ⊥
@@ -165,9 +160,6 @@ module _ {m : Mem} {h : Here} {x : Graph} where
   -- ---- at a node of set u: the reductions below r
 
   module _ (n u : ℕ) (is : u ≡ in_set x.buf n) where
-    pub node-start : Held h x → Works (view m) h (AtNode m h.position n 0) x x
-    node-start H = works_nothing H (λ l w. let q = w.low in omega arith)
-
     pub node-next : {y z : Graph} (from r : ℕ) → n < x.nodes → Works (view m) h (AtNode m h.position n from) x y → Works (view m) h (AtRule m h.position n r) y z
         → FirstRule m.sets.words u from r → Works (view m) h (AtNode m h.position n (r + 1)) x z
     node-next {y} {z} from r i D E b = works_next D E split
@@ -197,9 +189,6 @@ module _ {m : Mem} {h : Here} {x : Graph} where
     }
 
   -- ---- at the nodes of the position below n
-
-  pub all_start : Held h x → Works (view m) h (AtAll m h.position h.start h.start) x x
-  all_start H = works_nothing H (λ l w. let a = w.low in let b = w.from in omega arith)
 
   pub all-next : {y z : Graph} (n : ℕ) → n < y.nodes → Works (view m) h (AtAll m h.position h.start n) x y → Works (view m) h (AtNode m h.position n 128) y z
       → Works (view m) h (AtAll m h.position h.start (n + 1)) x z

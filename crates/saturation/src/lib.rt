@@ -1,7 +1,7 @@
 // Saturation of a position, and the step to the next: Parse's steps 1 and 3 over the graph of links.
 //
-// The table is only read, in its three lent slices, and must be in form. A caller keeps the buffer, the map `at` and the work
-// numbers of `levels` from call to call; see the crates `links` and `levels` for what they hold.
+// The table is only read, in its three lent slices, and must be in form. A caller keeps the graph and the work numbers of `levels`
+// from call to call; see the crates `links` and `levels` for what they hold.
 //
 // A reduction goes down level by level and links each end of its paths, so it costs the nodes and links that it meets. A
 // position's nodes are visited in the order of their making, new ones too. One pass suffices where each link that it brought

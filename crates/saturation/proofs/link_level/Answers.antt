@@ -11,6 +11,7 @@ node-requires c = (omega arith, (omega arith, omega (arith, few c.requires.work_
 
 pub loop-i-preserved : goal.loop-i-preserved
 loop-i-preserved c =
-    let l = c.requires.work_len.1.1.inside c.loop-i.i c.loop-i-test.true in
-    (same_trans c.loop-i.invariant.0 c.link_to.ensures.same,
-    list-next _ _ _ _ _ _ c.node.ensures (omega (arith, c.node.ensures)) c.loop-i.invariant.1 (rw c.loop-i.invariant.0.here at c.link_to.ensures.does))
+    let l = c.requires.work_len.1.1.inside c.loop-i.i c.loop-i-test.true in (
+      same_trans c.loop-i.invariant.0 c.link_to.ensures.same,
+      list-next _ _ _ _ _ _ c.node.ensures (omega (arith, c.node.ensures)) c.loop-i.invariant.1 (rw c.loop-i.invariant.0.here at c.link_to.ensures.does),
+    )
