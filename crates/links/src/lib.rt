@@ -36,7 +36,7 @@ const SET: usize = 4;
 const LAST: usize = 5;
 
 // How many nodes and links there are; and the mark `over`, 1 if a link was asked for that the pool has no room for, else 0.
-#[derive(Clone, Copy)]
+#[derive(Clone, Copy, Default)]
 pub struct Counts {
     pub nodes: usize,
     pub links: usize,
@@ -52,7 +52,8 @@ pub struct Here {
     pub sets: usize,
 }
 
-// The graph: the buffer and the map that the caller lends, how far the graph has come, and the position at hand.
+// The graph: the buffer and the map that the caller lends, how far the graph has come, and the position at hand. Who lends them
+// makes it of its fields: what a function returns with two `&mut` in it, its caller's proof loses sight of.
 #[derive(Drop)]
 pub struct Links<'a> {
     pub buf: &'a mut [u16],
@@ -61,32 +62,23 @@ pub struct Links<'a> {
     pub here: Here,
 }
 
-impl<'a> Links<'a> {
-    // The graph of the root alone.
-    pub fn begin(buf: &'a mut [u16], at: &'a mut [u16], size: usize, sets: usize) -> Links<'a>
-        requires size_in_bounds { ((size + 1) * 6 ≤ length buf.old) × ((size ≤ 4096) × (length at.old ≡ 256)) }
-        requires le_sets { (1 ≤ sets) × (sets ≤ 255) }
-        ensures same_slices { (result.buf.ghost_name ≡ buf.entry.ghost_name) × (result.at.ghost_name ≡ at.entry.ghost_name) }
-        ensures root { (result.counts ≡ counts 1 0 0) × (result.here ≡ root size sets) }
-        ensures held { Held (root size sets) (graph_of result) }
+impl Links<'_> {
+    // Makes it the graph of the root alone.
+    pub fn begin(&mut self)
+        requires root { self.old.here ≡ root self.old.here.size self.old.here.sets }
+        requires size_in_bounds { ((self.old.here.size + 1) * 6 ≤ length self.old.buf.now) × ((self.old.here.size ≤ 4096) × (length self.old.at.now ≡ 256)) }
+        requires le_sets { (1 ≤ self.old.here.sets) × (self.old.here.sets ≤ 255) }
+        ensures same { SamePlace self.old self.new }
+        ensures counts { self.new.counts ≡ counts 1 0 0 }
+        ensures held { Held self.old.here (graph_of self.new) }
     {
-        put_node(buf, 0, 0, 0);
-        put(at, 0, 0);
-        Links {
-            buf,
-            at,
-            counts: Counts {
-                nodes: 1,
-                links: 0,
-                over: 0,
-            },
-            here: Here {
-                position: 0,
-                start: 0,
-                size,
-                sets,
-            },
-        }
+        put_node(self.buf, 0, 0, 0);
+        put(self.at, 0, 0);
+        self.counts = Counts {
+            nodes: 1,
+            links: 0,
+            over: 0,
+        };
     }
 
     // Adds the link from set s at this position to node m, unless it is there.
