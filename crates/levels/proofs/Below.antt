@@ -1,6 +1,6 @@
 -- From a node to the nodes under it, from a level to the next, and k levels down. Assumes nothing.
 use mathlib.Core.Path.{◌≡◌, refl, sym, ◌∙◌, ap, subst}
-use mathlib.Core.Logic.{◌≢◌, ◌⊎◌, inl, inr, ⊎_elim}
+use mathlib.Core.Logic.{◌≢◌, ◌⊎◌, inr, ⊎_elim}
 use mathlib.Core.List.{List}
 use Prim.Native.Nat.{ℕ, zero, suc, ◌+◌, ◌-◌, ◌≤◌, ◌<◌}
 use native.Mathlib.Decide.{ℕ_discrete}
@@ -8,9 +8,9 @@ use native.Mathlib.Numerals.{add-one}
 use native.Mathlib.Omega.{arith}
 use lib.ListN.{length, get_or, set}
 use lib.Seq.{get_or-set_same}
-use Rattle.links.specs.Records.{under, previous, last_link}
+use Rattle.links.specs.Records.{under, previous}
 use Rattle.links.specs.Held.{Edge, Chained}
-use Rattle.links.proofs.Chain.{Walk, walk_start, walk_next, edge_at}
+use Rattle.links.proofs.Chain.{Walk, walk_next, edge_at}
 use Rattle.levels.specs.Lists.{listed, On, Listed, Made, OtherSame, Puts}
 use Rattle.levels.specs.Reached.{Spread, Under, Down, Reached}
 use Rattle.levels.specs.Reached.Down.{stay, on}
@@ -26,9 +26,6 @@ pub record Spreading (b : List ℕ) (links side nodes n k : ℕ) (w : List ℕ) 
   pub other : OtherSame side w w'
 
 module _ {b : List ℕ} {nodes links : ℕ} (C : Chained b nodes links) {side n : ℕ} {w : List ℕ} {c : ℕ} where
-  pub spread_start : {k : ℕ} → n < nodes → k ≡ last_link b n → Made w side c nodes → Spreading b links side nodes n k w c w c
-  spread_start h e M = record { walk = walk_start C h e; made = M; old = λ m o. o; only = λ m o. inl o; other = λ i l. refl }
-
   pub under_low : {w' : List ℕ} {c' k m : ℕ} → Spreading b links side nodes n k w c w' c' → k ≢ 0 → m ≡ under b k → m < nodes
   under_low {k = k} S z e = let l = S.walk.below in let h = C.under_in k (omega arith) l in omega arith
 
@@ -43,16 +40,6 @@ module _ {b : List ℕ} {nodes links : ℕ} (C : Chained b nodes links) {side n 
     other = λ i l. P.other i l ∙ S.other i l;
   }
 
-pub spread_end : {b : List ℕ} {links side nodes n k : ℕ} {w : List ℕ} {c : ℕ} {w' : List ℕ} {c' : ℕ} → Spreading b links side nodes n k w c w' c' → k ≡ 0
-    → Spread b links side nodes n w c w' c'
-spread_end {side = side} {w' = w'} {c' = c'} S z = record {
-  made = S.made;
-  old = S.old;
-  new = λ m e. subst (On w' side c') e.to (S.walk.past e.k (let h = e.some in omega arith) e.inside e.from);
-  only = S.only;
-  other = S.other;
-}
-
 -- ---- the level under a level: of the first i of its n nodes
 
 pub record Going (b : List ℕ) (links nodes : ℕ) (w : List ℕ) (from n i : ℕ) (w' : List ℕ) (side c : ℕ) : Type 0 where
@@ -62,17 +49,6 @@ pub record Going (b : List ℕ) (links nodes : ℕ) (w : List ℕ) (from n i : �
   pub same : (j : ℕ) → j < 4097 → listed w' from j ≡ listed w from j
 
 module _ {b : List ℕ} {links nodes : ℕ} {w : List ℕ} {from n side : ℕ} where
-  pub go_start : Going b links nodes w from n 0 w side 0
-  go_start = record {
-    made = record {
-      list = record { inside = λ i l. absurd (omega arith); once = λ i j l h. absurd (omega arith) };
-      indexed = λ i l. absurd (omega arith);
-    };
-    all = λ j m l. absurd (omega arith);
-    only = λ m o. absurd (let h = o.low in omega arith);
-    same = λ j l. refl;
-  }
-
   module _ {i c m : ℕ} {w' : List ℕ} (G : Going b links nodes w from n i w' side c) (i_low : i < n) (n_few : n ≤ 4097) (is : m ≡ listed w' from i) where
     the-node : m ≡ listed w from i
     the-node = is ∙ G.same i (omega arith)
@@ -120,6 +96,3 @@ module _ {b : List ℕ} {links nodes n : ℕ} where
     all = λ m d. let (a, q, e) = down_back d in let o = R.all a q in U.all o.i m o.low (subst (λ a. Edge b links a m) (sym o.is) e);
     only = λ m o. let (i, l, e) = U.only m o in on (R.only (listed w side i) (record { i = i; low = l; is = refl })) e;
   })
-
-pub reached-end : {b : List ℕ} {links nodes n i k side c : ℕ} {w : List ℕ} → i ≡ k → Reached b links nodes n i w side c → Reached b links nodes n k w side c
-reached-end {b} {links} {nodes} {n} {side = side} {c = c} {w = w} e r = subst (λ k. Reached b links nodes n k w side c) e r

@@ -1,5 +1,4 @@
 -- The sparse set: whether a node is in the list, and one put onto it. Assumes nothing.
-use mathlib.Core.Bool.{Bool, true, false}
 use mathlib.Core.Path.{◌≡◌, refl, sym, ◌∙◌, ap, subst}
 use mathlib.Core.Logic.{◌≢◌, inl, inr, ⊎_elim}
 use mathlib.Core.List.Memᴰ
@@ -7,13 +6,10 @@ use mathlib.Core.List.{List, [], ◌∷◌, Memᴰ as In}
 use Prim.Native.Nat.{ℕ, zero, suc, ◌+◌, ◌-◌, ◌*◌, ◌≤◌, ◌<◌, zero-le}
 use native.Mathlib.Decide.{ℕ_discrete}
 use native.Mathlib.Omega.{arith}
-use lib.Dec.{eqb}
 use lib.ListN.{length, get_or, set, length-set}
 use lib.Seq.{get_or-set_same, get_or-set_other}
-use Rattle.laws.specs.Choice.{Tells}
 use Rattle.laws.specs.Lists.{Distinct, up_from}
 use Rattle.laws.specs.Lists.Distinct.{none, one_more}
-use Rattle.laws.proofs.Choice.{tells_eqb}
 use Rattle.laws.proofs.Lists.{in_up, up_length}
 use Rattle.theory.proofs.Counting.{no_longer}
 use Rattle.levels.specs.Lists.{listed, On, Listed, Made, Puts}
@@ -69,14 +65,6 @@ module _ {w : List ℕ} {side c nodes i : ℕ} (n : ℕ) (M : Made w side c node
 
   pub not_there : listed w side i ≢ n → On w side c n → ⊥
   not_there d o = d (ap (λ j. listed w side j) (sym (place o)) ∙ o.is)
-
-  -- the answer of the last comparison, with the number j that was read
-  pub tells_on : {j : ℕ} → j ≡ listed w side i → i < c → Tells (eqb j n) (On w side c n)
-  tells_on {j} e l = go (eqb j n) (tells_eqb j n)
-    where
-      go : (t : Bool) → Tells t (j ≡ n) → Tells t (On w side c n)
-      go true q = record { i = i; low = l; is = sym e ∙ q }
-      go false q = not_there (λ z. q (e ∙ z))
 
 -- ---- node n put
 

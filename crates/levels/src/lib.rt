@@ -11,11 +11,13 @@
 // counts only if the list has the node there. So nothing is ever cleared, and the array need not be zero at first.
 #![tactic(auto)]
 
-ghost use Rattle.std.specs.Prelude.{◌≡◌, ◌+◌, ◌*◌, ◌<◌, ◌≤◌, length};
+ghost use Rattle.std.specs.Prelude.{◌≡◌, ℕ, ◌+◌, ◌*◌, ◌<◌, ◌≤◌, length};
 ghost use Rattle.laws.specs.Choice.{Tells};
-ghost use Rattle.links.specs.Held.{Chained};
-ghost use Rattle.levels.specs.Lists.{On, Listed, Made, Puts};
+ghost use Rattle.links.specs.Lent.{InChains};
+ghost use Rattle.levels.specs.Lists.{On, Listed, Made, Puts, listed};
 ghost use Rattle.levels.specs.Reached.{Spread, Under, Reached};
+
+use links::Links;
 
 // How many nodes a pool can have, and so the longest list.
 pub const NODES: usize = 4097;
@@ -23,104 +25,92 @@ pub const NODES: usize = 4097;
 // The work numbers: two lists and the index.
 pub const WORK: usize = 12291;
 
-// A level: on which side its list stands, and how many nodes it has.
+// A level, or a list that is being made into one: on which side of the work numbers it stands, and how many nodes it has.
 #[derive(Clone, Copy)]
 pub struct Level {
     pub side: usize,
     pub count: usize,
 }
 
-// Whether node n is in the list that is being made.
-fn is_on(work: &[u16], side: usize, count: usize, nodes: usize, n: usize) -> bool
-    requires work_len { (length work.now ≡ 12291) × ((side ≤ 1) × ((count ≤ 4097) × (n < 4097))) }
-    requires made { Made work.now side count nodes }
-    ensures { Tells result (On work.now side count n) }
-{
-    let i = links::number(work, 2 * NODES + n);
-    if i >= count {
-        return false;
+impl Level {
+    // Node number i of the list.
+    pub fn node(self, work: &[u16], i: usize) -> usize
+        requires { (length work.now ≡ 12291) × ((self.side ≤ 1) × (i < 4097)) }
+        ensures { result ≡ listed work.now self.side i }
+    {
+        links::number(work, self.side * NODES + i)
     }
-    links::number(work, side * NODES + i) == n
-}
 
-// Puts node n onto the list, unless it is there. Answers how many there are.
-fn put_on(work: &mut [u16], side: usize, count: usize, nodes: usize, n: usize) -> usize
-    requires work_len { (length work.old ≡ 12291) × ((side ≤ 1) × ((nodes ≤ 4097) × (n < nodes))) }
-    requires made { Made work.old side count nodes }
-    ensures { Puts side nodes n work.old count work.new result }
-{
-    if is_on(work, side, count, nodes, n) {
-        return count;
+    // Whether node n is in the list that is being made.
+    fn has(self, work: &[u16], n: usize) -> bool
+        requires work_len { (length work.now ≡ 12291) × ((self.side ≤ 1) × (n < 4097)) }
+        requires made { Made work.now self.side self.count 4097 }
+        ensures { Tells result (On work.now self.side self.count n) }
+    {
+        let i = links::number(work, 2 * NODES + n);
+        i < self.count && self.node(work, i) == n
     }
-    links::put(work, side * NODES + count, n);
-    links::put(work, 2 * NODES + n, count);
-    count + 1
-}
 
-// Puts the nodes under node n onto the list. Answers how many there are.
-fn spread(
-    buf: &[u16],
-    work: &mut [u16],
-    nodes: usize,
-    links: usize,
-    side: usize,
-    count: usize,
-    n: usize,
-) -> usize
-    requires chained { Chained buf.now nodes links }
-    requires work_len { (length work.old ≡ 12291) × ((side ≤ 1) × (n < nodes)) }
-    requires made { Made work.old side count nodes }
-    ensures { Spread buf.now links side nodes n work.old count work.new result }
-{
-    let mut c = count;
-    let mut k = links::number(buf, n * links::RECORD + links::LAST);
-    while k != 0 {
-        let m = links::number(buf, k * links::RECORD + links::UNDER);
-        c = put_on(work, side, c, nodes, m);
-        k = links::number(buf, k * links::RECORD + links::BEFORE);
+    // Puts node n onto the list, unless it is there.
+    fn put(&mut self, work: &mut [u16], n: usize)
+        requires work_len { (length work.old ≡ 12291) × ((self.old.side ≤ 1) × (n < 4097)) }
+        requires made { Made work.old self.old.side self.old.count 4097 }
+        ensures side { self.new.side ≡ self.old.side }
+        ensures puts { (nodes : ℕ) → nodes ≤ 4097 → n < nodes → Made work.old self.old.side self.old.count nodes
+            → Puts self.old.side nodes n work.old self.old.count work.new self.new.count }
+    {
+        if self.has(work, n) {
+            return;
+        }
+        links::put(work, self.side * NODES + self.count, n);
+        links::put(work, 2 * NODES + n, self.count);
+        self.count += 1;
     }
-    c
-}
 
-// The level under a level, on the other side.
-fn under(buf: &[u16], work: &mut [u16], nodes: usize, links: usize, l: Level) -> Level
-    requires chained { Chained buf.now nodes links }
-    requires work_len { (length work.old ≡ 12291) × (l.side ≤ 1) }
-    requires listed { Listed work.old l.side l.count nodes }
-    ensures { (result.side ≤ 1) × Under buf.now links nodes work.old l.side l.count work.new result.side result.count }
-{
-    let from = l.side;
-    let n = l.count;
-    let side = 1 - from;
-    let mut count = 0;
-    let mut i = 0;
-    while i < n {
-        let m = links::number(work, from * NODES + i);
-        count = spread(buf, work, nodes, links, side, count, m);
-        i += 1;
+    // Puts the nodes under node n onto the list.
+    fn spread(&mut self, links: &Links, work: &mut [u16], n: usize)
+        requires chained { InChains links.now }
+        requires work_len { (length work.old ≡ 12291) × ((self.old.side ≤ 1) × (n < links.now.counts.nodes)) }
+        requires made { Made work.old self.old.side self.old.count links.now.counts.nodes }
+        ensures side { self.new.side ≡ self.old.side }
+        ensures spread { Spread links.now.buf.now links.now.counts.links self.old.side links.now.counts.nodes n work.old self.old.count work.new self.new.count }
+    {
+        let mut k = links::last_link(links.buf, n);
+        while k != 0 {
+            self.put(work, links::under(links.buf, k));
+            k = links::before(links.buf, k);
+        }
     }
-    Level { side, count }
+
+    // The level under this one, on the other side.
+    fn under(self, links: &Links, work: &mut [u16]) -> Level
+        requires chained { InChains links.now }
+        requires work_len { (length work.old ≡ 12291) × (self.side ≤ 1) }
+        requires listed { Listed work.old self.side self.count links.now.counts.nodes }
+        ensures { (result.side ≤ 1) × Under links.now.buf.now links.now.counts.links links.now.counts.nodes work.old self.side self.count work.new result.side result.count }
+    {
+        let mut next = Level {
+            side: 1 - self.side,
+            count: 0,
+        };
+        for i in 0..self.count {
+            let n = self.node(work, i);
+            next.spread(links, work, n);
+        }
+        next
+    }
 }
 
 // The nodes that the paths of k links from node n lead to.
-pub fn levels(
-    buf: &[u16],
-    work: &mut [u16],
-    nodes: usize,
-    links: usize,
-    n: usize,
-    k: usize,
-) -> Level
-    requires chained { Chained buf.now nodes links }
-    requires work_len { (length work.old ≡ 12291) × (n < nodes) }
-    ensures { (result.side ≤ 1) × Reached buf.now links nodes n k work.new result.side result.count }
+pub fn levels(links: &Links, work: &mut [u16], n: usize, k: usize) -> Level
+    requires chained { InChains links.now }
+    requires work_len { (length work.old ≡ 12291) × (n < links.now.counts.nodes) }
+    ensures { (result.side ≤ 1) × Reached links.now.buf.now links.now.counts.links links.now.counts.nodes n k work.new result.side result.count }
 {
     links::put(work, 0, n);
-    let mut l = Level { side: 0, count: 1 };
-    let mut i = 0;
-    while i < k {
-        l = under(buf, work, nodes, links, l);
-        i += 1;
+    let mut level = Level { side: 0, count: 1 };
+    for _ in 0..k {
+        level = level.under(links, work);
     }
-    l
+    level
 }

@@ -12,7 +12,7 @@ use Rattle.theory.specs.Parse.{Link, link}
 use Rattle.links.specs.declared.Here.{Here}
 use Rattle.links.specs.declared.Counts.{Counts}
 use Rattle.links.specs.Records.{source, under, position, in_set, last_link, Graph, graph, counts, link_of, links_of, put_node, put_link}
-use Rattle.links.specs.Held.{Edge, Core, Held, Grown, NodeOf, Adds}
+use Rattle.links.specs.Held.{Edge, Core, Held, Grown, Adds}
 use Rattle.links.proofs.Stored.{put-source, put_under, put_last, last-old, position-old, set-old}
 use Rattle.links.proofs.Kept.{linked, put-core, put-grown, noded, node-core, d_source, d_under, d_position, d_set, d_last, n-position, n-set}
 use Rattle.links.proofs.Listed.{edge_in, edge_of, source-here, one_link, grown-mark, grown_refl}
@@ -202,14 +202,3 @@ adds-by {h} {s} {m} {x} {c = c} e f d = subst₂ (λ b a. Adds h s m x (graph b 
 
 pub put-after : (n m k : ℕ) {b b₁ b₂ : List ℕ} → b₂ ≡ put_link b₁ n m k → b₁ ≡ b → b₂ ≡ put_link b n m k
 put-after n m k e f = e ∙ ap (λ b. put_link b n m k) f
-
--- the node that was found
-module _ {b : List ℕ} {start nodes s n : ℕ} (N : NodeOf b start nodes s n) (d : n ≢ nodes) where
-  pub found_in : n < nodes
-  found_in = omega (arith, N.low)
-
-  pub found_from : start ≤ n
-  found_from = (N.is found_in).0
-
-  pub found-set : in_set b n ≡ s
-  found-set = (N.is found_in).1

@@ -8,7 +8,7 @@ use native.Mathlib.Omega.{arith}
 use lib.ListN.{length}
 use Rattle.links.specs.declared.Here.{Here}
 use Rattle.links.specs.Records.{source, under, previous, last_link, Graph}
-use Rattle.links.specs.Held.{Edge, Core, Held, Chained}
+use Rattle.links.specs.Held.{Edge, Core, Chained}
 
 -- the walk stands at link k, and Q holds of each link of n's that it passed
 pub record Walk (b : List ℕ) (l n k : ℕ) (Q : ℕ → Type 0) : Type 0 where
@@ -40,13 +40,6 @@ module _ {b : List ℕ} {nodes links : ℕ} (C : Chained b nodes links) {n : ℕ
         ];
       }
 
-  pub walk_less : {k k' : ℕ} → Walk b links n k Q → k ≢ 0 → k' ≡ previous b k → k' < k
-  walk_less {k} w z e = let a = w.below in let l = (C.chain k (omega arith) a).below in omega arith
-
-  -- the places that a turn reads are inside
-  pub walk_room : {k : ℕ} → Walk b links n k Q → k * 6 + 5 < length b
-  walk_room w = omega (arith, w.below, C.link_room)
-
 pub edge_at : {b : List ℕ} {l n k : ℕ} {Q : ℕ → Type 0} → Walk b l n k Q → k ≢ 0 → (m : ℕ) → under b k ≡ m → Edge b l n m
 edge_at {k = k} w z m e = record { k = k; some = omega arith; inside = w.below; from = w.is z; to = e }
 
@@ -66,7 +59,3 @@ chained C = record {
   chain = C.chain;
   lasts = C.lasts;
 }
-
--- room for one node more
-pub node_room-new : {h : Here} {x : Graph} → Held h x → x.links ≢ h.size → x.nodes * 6 + 5 < length x.buf
-node_room-new H d = omega (arith, H.few_nodes, H.core.fits, H.core.room)

@@ -1,5 +1,5 @@
 -- What always holds of the buffer, and what one more link changes. Assumes nothing.
-use Rattle.std.specs.Prelude.{◌≡◌, ◌≢◌, ◌⊎◌, ℕ, ◌+◌, ◌*◌, ◌≤◌, ◌<◌, length, get_or}
+use Rattle.std.specs.Prelude.{◌≡◌, ◌≢◌, ◌⊎◌, ℕ, ◌+◌, ◌*◌, ◌≤◌, ◌<◌, length, get_or, Option, Some, None}
 use mathlib.Core.List.{List, Memᴰ as In}
 use Rattle.theory.specs.Parse.{Link, link}
 use Rattle.links.specs.declared.Here.{Here}
@@ -84,11 +84,10 @@ pub record Grown (x y : Graph) : Type 0 where
 abbrev pub FindsAt : List ℕ → List ℕ → ℕ → ℕ → Type 0
 FindsAt b at start nodes = (n : ℕ) → n < nodes → start ≤ n → get_or at (in_set b n) 0 ≡ n
 
--- r is the node of set s at this position, or the number of nodes where there is none
-pub record NodeOf (b : List ℕ) (start nodes s r : ℕ) : Type 0 where
-  pub low : r ≤ nodes
-  pub is : r < nodes → (start ≤ r) × (in_set b r ≡ s)
-  pub none : r ≡ nodes → (n : ℕ) → start ≤ n → n < nodes → in_set b n ≢ s
+-- r is the node of set s at this position, or none where there is none
+abbrev pub NodeOf : List ℕ → (start nodes s : ℕ) → Option ℕ → Type 0
+NodeOf b start nodes s (Some r) = (r < nodes) × ((start ≤ r) × (in_set b r ≡ s))
+NodeOf b start nodes s None = (n : ℕ) → start ≤ n → n < nodes → in_set b n ≢ s
 
 -- what adding the link from set s at this position to node m leaves
 pub record Adds (h : Here) (s m : ℕ) (x y : Graph) : Type 0 where

@@ -16,27 +16,27 @@
 
 ghost use Rattle.std.specs.Prelude.{◌≡◌, ◌+◌, ◌*◌, ◌<◌, ◌≤◌, length, get_or, set};
 ghost use Rattle.laws.specs.Choice.{Tells};
-ghost use Rattle.links.specs.Records.{graph, counts, put_node, put_link};
-ghost use Rattle.links.specs.Held.{Edge, Chained, Held, FindsAt, NodeOf, Adds, Cleared};
+ghost use Rattle.links.specs.Records.{source, under, previous, position, in_set, last_link, counts, put_node, put_link};
+ghost use Rattle.links.specs.Held.{Edge, Held, FindsAt, NodeOf, Adds, Cleared};
+ghost use Rattle.links.specs.Lent.{graph_of, InChains, SamePlace, root};
 
 // The numbers of a record.
 pub const RECORD: usize = 6;
 
 // Of a link: its source comes first, then the node under it and the link before it.
-pub const UNDER: usize = 1;
+const UNDER: usize = 1;
 
-pub const BEFORE: usize = 2;
+const BEFORE: usize = 2;
 
 // Of a node: its position, its set and its last link.
-pub const POSITION: usize = 3;
+const POSITION: usize = 3;
 
-pub const SET: usize = 4;
+const SET: usize = 4;
 
-pub const LAST: usize = 5;
+const LAST: usize = 5;
 
-// How many nodes and links there are; and the mark `over`, 1 if a link was asked for that the pool has no room for, else 0. It is
-// a whole word because the struct is handed from call to call: a bool's padding would be copied in pieces, which triples the time.
-#[derive(Clone, Copy)]
+// How many nodes and links there are; and the mark `over`, 1 if a link was asked for that the pool has no room for, else 0.
+#[derive(Clone, Copy, Default)]
 pub struct Counts {
     pub nodes: usize,
     pub links: usize,
@@ -50,6 +50,110 @@ pub struct Here {
     pub start: usize,
     pub size: usize,
     pub sets: usize,
+}
+
+// The graph: the buffer and the map that the caller lends, how far the graph has come, and the position at hand. Who lends them
+// makes it of its fields: what a function returns with two `&mut` in it, its caller's proof loses sight of.
+#[derive(Drop)]
+pub struct Links<'a> {
+    pub buf: &'a mut [u16],
+    pub at: &'a mut [u16],
+    pub counts: Counts,
+    pub here: Here,
+}
+
+impl Links<'_> {
+    // Makes it the graph of the root alone.
+    pub fn begin(&mut self)
+        requires root { self.old.here ≡ root self.old.here.size self.old.here.sets }
+        requires size_in_bounds { ((self.old.here.size + 1) * 6 ≤ length self.old.buf.now) × ((self.old.here.size ≤ 4096) × (length self.old.at.now ≡ 256)) }
+        requires le_sets { (1 ≤ self.old.here.sets) × (self.old.here.sets ≤ 255) }
+        ensures same { SamePlace self.old self.new }
+        ensures counts { self.new.counts ≡ counts 1 0 0 }
+        ensures held { Held self.old.here (graph_of self.new) }
+    {
+        put_node(self.buf, 0, 0, 0);
+        put(self.at, 0, 0);
+        self.counts = Counts {
+            nodes: 1,
+            links: 0,
+            over: 0,
+        };
+    }
+
+    // Adds the link from set s at this position to node m, unless it is there.
+    pub fn add_link(&mut self, s: usize, m: usize)
+        requires held { Held self.old.here (graph_of self.old) }
+        requires m_lt_nodes { (m < self.old.counts.nodes) × (s < self.old.here.sets) }
+        ensures same { SamePlace self.old self.new }
+        ensures adds { Adds self.old.here s m (graph_of self.old) (graph_of self.new) }
+    {
+        let Counts {
+            nodes,
+            links,
+            over: _,
+        } = self.counts;
+        match self.node_of(s) {
+            Some(n) => {
+                if self.has_link(n, m) {
+                    return;
+                }
+                if links == self.here.size {
+                    self.counts.over = 1;
+                    return;
+                }
+                put_link(self.buf, n, m, links + 1);
+            }
+            None => {
+                if links == self.here.size {
+                    self.counts.over = 1;
+                    return;
+                }
+                put_node(self.buf, nodes, self.here.position, s);
+                put_link(self.buf, nodes, m, links + 1);
+                put(self.at, s, nodes);
+                self.counts.nodes = nodes + 1;
+            }
+        }
+        self.counts.links = links + 1;
+    }
+
+    // The set of node n.
+    pub fn set_of(&self, n: usize) -> usize
+        requires { n * 6 + 5 < length self.now.buf.now }
+        ensures { result ≡ in_set self.now.buf.now n }
+    {
+        set_of(self.buf, n)
+    }
+
+    // Whether a link goes from node n to node m.
+    fn has_link(&self, n: usize, m: usize) -> bool
+        requires chained { InChains self.now }
+        requires n_lt_nodes { n < self.now.counts.nodes }
+        ensures { Tells result (Edge self.now.buf.now self.now.counts.links n m) }
+    {
+        let mut k = last_link(self.buf, n);
+        while k != 0 {
+            if under(self.buf, k) == m {
+                return true;
+            }
+            k = before(self.buf, k);
+        }
+        false
+    }
+
+    // The node of set s at this position.
+    fn node_of(&self, s: usize) -> Option<usize>
+        requires nodes_in_bounds { (self.now.counts.nodes * 6 ≤ length self.now.buf.now) × (s < length self.now.at.now) }
+        requires finds_at { FindsAt self.now.buf.now self.now.at.now self.now.here.start self.now.counts.nodes }
+        ensures { NodeOf self.now.buf.now self.now.here.start self.now.counts.nodes s result }
+    {
+        let n = number(self.at, s);
+        if self.here.start <= n && n < self.counts.nodes && self.set_of(n) == s {
+            return Some(n);
+        }
+        None
+    }
 }
 
 // The number at i.
@@ -68,39 +172,52 @@ pub fn put(b: &mut [u16], i: usize, x: usize)
     b[i] = x as u16;
 }
 
-// Whether a link goes from node n to node m.
-fn has_link(buf: &[u16], nodes: usize, links: usize, n: usize, m: usize) -> bool
-    requires chained { Chained buf.now nodes links }
-    requires n_lt_nodes { n < nodes }
-    ensures { Tells result (Edge buf.now links n m) }
+// The source node of link k.
+pub fn source(b: &[u16], k: usize) -> usize
+    requires { k * 6 + 5 < length b.now }
+    ensures { result ≡ source b.now k }
 {
-    let mut k = number(buf, n * RECORD + LAST);
-    while k != 0 {
-        if number(buf, k * RECORD + UNDER) == m {
-            return true;
-        }
-        k = number(buf, k * RECORD + BEFORE);
-    }
-    false
+    number(b, k * RECORD)
 }
 
-// The node of set s at this position, or `nodes` where there is none.
-fn node_of(buf: &[u16], at: &[u16], start: usize, nodes: usize, s: usize) -> usize
-    requires nodes_in_bounds { (nodes * 6 ≤ length buf.now) × (s < length at.now) }
-    requires finds_at { FindsAt buf.now at.now start nodes }
-    ensures { NodeOf buf.now start nodes s result }
+// The node under link k.
+pub fn under(b: &[u16], k: usize) -> usize
+    requires { k * 6 + 5 < length b.now }
+    ensures { result ≡ under b.now k }
 {
-    let n = number(at, s);
-    if n < start {
-        return nodes;
-    }
-    if n >= nodes {
-        return nodes;
-    }
-    if number(buf, n * RECORD + SET) != s {
-        return nodes;
-    }
-    n
+    number(b, k * RECORD + UNDER)
+}
+
+// The link of the same source before link k, 0 where there is none.
+pub fn before(b: &[u16], k: usize) -> usize
+    requires { k * 6 + 5 < length b.now }
+    ensures { result ≡ previous b.now k }
+{
+    number(b, k * RECORD + BEFORE)
+}
+
+// The position of node n.
+pub fn position(b: &[u16], n: usize) -> usize
+    requires { n * 6 + 5 < length b.now }
+    ensures { result ≡ position b.now n }
+{
+    number(b, n * RECORD + POSITION)
+}
+
+// The set of node n.
+pub fn set_of(b: &[u16], n: usize) -> usize
+    requires { n * 6 + 5 < length b.now }
+    ensures { result ≡ in_set b.now n }
+{
+    number(b, n * RECORD + SET)
+}
+
+// The last link of node n, 0 where it has none.
+pub fn last_link(b: &[u16], n: usize) -> usize
+    requires { n * 6 + 5 < length b.now }
+    ensures { result ≡ last_link b.now n }
+{
+    number(b, n * RECORD + LAST)
 }
 
 // Makes node n, of set s at position p.
@@ -125,80 +242,10 @@ fn put_link(buf: &mut [u16], n: usize, m: usize, k: usize)
     buf[n * RECORD + LAST] = k as u16;
 }
 
-// The graph of the root alone.
-pub fn begin(buf: &mut [u16], at: &mut [u16], size: usize, sets: usize) -> Counts
-    requires size_in_bounds { ((size + 1) * 6 ≤ length buf.old) × ((size ≤ 4096) × (length at.old ≡ 256)) }
-    requires le_sets { (1 ≤ sets) × (sets ≤ 255) }
-    ensures { (result ≡ counts 1 0 0) × Held (record { position = 0; start = 0; size = size; sets = sets }) (graph buf.new at.new result) }
-{
-    put_node(buf, 0, 0, 0);
-    put(at, 0, 0);
-    Counts {
-        nodes: 1,
-        links: 0,
-        over: 0,
-    }
-}
-
-// Adds the link from set s at this position to node m, unless it is there.
-pub fn add_link(
-    buf: &mut [u16],
-    at: &mut [u16],
-    c: Counts,
-    here: Here,
-    s: usize,
-    m: usize,
-) -> Counts
-    requires held { Held here (graph buf.old at.old c) }
-    requires m_lt_nodes { (m < c.nodes) × (s < here.sets) }
-    ensures { Adds here s m (graph buf.old at.old c) (graph buf.new at.new result) }
-{
-    let nodes = c.nodes;
-    let links = c.links;
-    let n = node_of(buf, at, here.start, nodes, s);
-    if n == nodes {
-        if links == here.size {
-            return Counts {
-                nodes,
-                links,
-                over: 1,
-            };
-        }
-        put_node(buf, nodes, here.position, s);
-        put_link(buf, nodes, m, links + 1);
-        put(at, s, nodes);
-        return Counts {
-            nodes: nodes + 1,
-            links: links + 1,
-            over: c.over,
-        };
-    }
-    if has_link(buf, nodes, links, n, m) {
-        return c;
-    }
-    if links == here.size {
-        return Counts {
-            nodes,
-            links,
-            over: 1,
-        };
-    }
-    put_link(buf, n, m, links + 1);
-    Counts {
-        nodes,
-        links: links + 1,
-        over: c.over,
-    }
-}
-
 // Makes the first n numbers zero.
 pub fn clear(b: &mut [u16], n: usize)
     requires { n ≤ length b.old }
     ensures { Cleared n b.old b.new }
 {
-    let mut i = 0;
-    while i < n {
-        b[i] = 0;
-        i += 1;
-    }
+    b[..n].fill(0);
 }

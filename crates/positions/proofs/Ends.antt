@@ -1,13 +1,13 @@
 -- A settled position's ways on: the verdict at the end of the line, else a token that no node takes, a link too many, or the next
 -- position. Assumes nothing.
-use mathlib.Core.Path.{◌≡◌, refl, sym, ap, subst, subst₂}
+use mathlib.Core.Path.{◌≡◌, refl, sym, ap, subst}
 use mathlib.Core.Logic.{◌≢◌}
 use mathlib.Core.List.{List, [], ◌∷◌}
 use Prim.Native.Nat.{ℕ, ◌<◌}
 use native.Mathlib.Numerals.{add-one}
 use native.Mathlib.Omega.{arith}
 use lib.ListN.{length}
-use Rattle.symbols.specs.Answer.{number_of, answer_of_parse, links_with}
+use Rattle.symbols.specs.Answer.{number_of}
 use Rattle.symbols.specs.declared.answer.Answer.{Answer}
 use Rattle.symbols.specs.declared.answer.Answer.TheVariants.{Accept, Reject, NoLinks}
 use Rattle.theory.specs.Table.{Table}
@@ -19,67 +19,20 @@ use Rattle.theory.proofs.Reaching.{reaches-leads, reaches-on}
 use Rattle.theory.proofs.Grounded.{Grounded, shifted_grounded}
 use Rattle.table.specs.Layout.{Mem, view}
 use Rattle.links.specs.declared.Here.{Here}
-use Rattle.links.specs.declared.Counts.{Counts}
 use Rattle.links.specs.Records.{Graph, graph, counts, links_of}
 use Rattle.links.proofs.Listed.{count}
 use Rattle.saturation.specs.Ends.{Shifts, Accepting}
 use Rattle.theory.proofs.Shifting.{shifting, not_fewer, none-new}
-use Rattle.std.specs.Prelude.{Result}
-use Rattle.symbols.specs.declared.refusal.Refusal.{Refusal}
-use Rattle.symbols.specs.declared.verdict.Verdict.{Verdict}
-use Rattle.positions.specs.Reading.{Stands, Settles, Refuses, SettlesOr, Advances, AdvancesOr, Holds, Finishes}
-use Rattle.positions.specs.declared.Advanced.TheVariants.{On, Ends}
-use Rattle.positions.specs.declared.settle.Settled.TheVariants.{Ready as ReadyWith, Refused}
+use Rattle.positions.specs.declared.Verdict.{Verdict}
+use Rattle.positions.specs.Reading.{Stands, Settles, Refuses, Advances, Holds, Finishes, refusal}
 
 abbrev verdict : Answer → ℕ → Verdict
 verdict a n = record { answer = a; links = n }
 
--- ---- each way out is one of those that the contracts name
-
-module _ {h : Here} {m : Mem} {x : Graph} {n : Mem} {b at : List ℕ} where
-  pub came_ready : {c : Counts} → Settles h m x n (graph b at c) → SettlesOr h m x n b at (ReadyWith c)
-  came_ready {c} s = record {
-    ready = λ d e. subst (λ d. Settles h m x n (graph b at d)) (the e) s;
-    refused = λ a e. absurd (let z : ◌≡◌ {A = ℕ} 0 1 = cc in omega arith);
-  }
-    where
-      the : {d : Counts} → ReadyWith c ≡ ReadyWith d → c ≡ d
-      the e = cc
-
-  pub came_refused : {a : Answer} → Refuses h m x n (number_of a) → SettlesOr h m x n b at (Refused a)
-  came_refused {a} r = record {
-    ready = λ d e. absurd (let z : ◌≡◌ {A = ℕ} 0 1 = cc in omega arith);
-    refused = λ a' e. subst (λ a. Refuses h m x n (number_of a)) (the e) r;
-  }
-    where
-      the : {a' : Answer} → Refused a ≡ Refused a' → a ≡ a'
-      the e = cc
-
-  pub came_on : {k s : ℕ} {c : Counts} → Advances h k m x s n (graph b at c) → AdvancesOr h k m x n b at (On s c)
-  came_on {k} {s} {c} a = record {
-    on = λ i d e. subst₂ (λ i d. Advances h k m x i n (graph b at d)) (first e) (second e) a;
-    ends = λ v e. absurd (let z : ◌≡◌ {A = ℕ} 0 1 = cc in omega arith);
-  }
-    where
-      first : {i : ℕ} {d : Counts} → On s c ≡ On i d → s ≡ i
-      first e = cc
-
-      second : {i : ℕ} {d : Counts} → On s c ≡ On i d → c ≡ d
-      second e = cc
-
-  pub came_to-end : {k : ℕ} {v : Result Verdict Refusal} → ((w : List ℕ) → Finishes h (k ∷ w) m x n b v) → AdvancesOr h k m x n b at (Ends v)
-  came_to-end {k} {v} f = record {
-    on = λ i d e. absurd (let z : ◌≡◌ {A = ℕ} 0 1 = cc in omega arith);
-    ends = λ u e. subst (λ u. (w : List ℕ) → Finishes h (k ∷ w) m x n b u) (the e) f;
-  }
-    where
-      the : {u : Result Verdict Refusal} → Ends v ≡ Ends u → v ≡ u
-      the e = cc
-
 -- ---- a position that was not settled
 
 pub refuses : {h : Here} {m : Mem} {x : Graph} {n : Mem} {b : List ℕ} (a : Answer) → Refuses h m x n (number_of a)
-    → (w : List ℕ) → Finishes h w m x n b (verdict a 0)
+    → (w : List ℕ) → Finishes h w m x n b (refusal a)
 refuses a r w = record { kept = r.kept; steps = r.steps w; accepted = λ e. absurd (let h = r.refusal in omega arith) }
 
 -- ---- a settled one
@@ -130,7 +83,7 @@ module _ {h : Here} {m : Mem} {x : Graph} {n : Mem} {y : Graph} (S : Settles h m
     grown = count z.buf z.links
 
     -- "More than the pool: NO-LINKS."
-    pub ends-over : z.over ≢ 0 → {b : List ℕ} (w : List ℕ) → Finishes h (k ∷ w) m x n b (verdict NoLinks 0)
+    pub ends-over : z.over ≢ 0 → {b : List ℕ} (w : List ℕ) → Finishes h (k ∷ w) m x n b (refusal NoLinks)
     ends-over e w = record {
       kept = S.kept;
       steps =

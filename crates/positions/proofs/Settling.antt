@@ -1,15 +1,14 @@
 -- A position settled turn by turn: what holds before each turn, what a turn keeps, and the ways out. A turn that expands a set leaves
 -- one more expanded set of a node here, so the turns end. Assumes nothing.
 use mathlib.Core.Path.{◌≡◌, refl, sym, ◌∙◌, ap, subst}
-use mathlib.Core.Bool.{Bool, true, false, not}
+use mathlib.Core.Bool.{Bool, true, false}
 use mathlib.Core.Logic.{◌≢◌}
 use mathlib.Core.List.{List}
 use Prim.Native.Nat.{ℕ, ◌≤◌, ◌<◌}
 use native.Mathlib.Omega.{arith}
-use borrow.Author.Tests.{not-true, not-false}
 use lib.ListN.{length}
 use Rattle.theory.specs.Table.{Table}
-use Rattle.theory.specs.Parse.{Link, outcome}
+use Rattle.theory.specs.Parse.{outcome}
 use Rattle.theory.specs.Steps.{Saturated, Lowest}
 use Rattle.theory.specs.Steps.Linked.{given}
 use Rattle.theory.specs.Steps.Steps.{no_links, no_sets}
@@ -25,16 +24,12 @@ use Rattle.links.specs.declared.Here.{Here}
 use Rattle.links.specs.Records.{Graph, links_of}
 use Rattle.links.proofs.Listed.{count}
 use Rattle.saturation.specs.Ends.{Saturates, Waiting}
-use Rattle.std.specs.Prelude.{Option, Some, None}
+use Rattle.kernels.specs.declared.Found.TheVariants.{Nothing}
 use Rattle.expansion.specs.Expansion.{Expandable, Expands}
 use Rattle.expansion.proofs.Promises.{expand-keeps, expand-expanded}
 use Rattle.positions.specs.Reading.{Stands, Kept, Settles, Refuses}
 use Rattle.positions.proofs.Kept.{kept-none, kept_trans, kept-expanded}
 use Rattle.positions.proofs.Turns.{turns_left, fewer_turns}
-
--- what the search for an unexpanded set found
-pub waiting_at : {t : Table} {p u : ℕ} {ls : List Link} {f : (Option ℕ)} → Waiting t p ls f → f ≡ Some u → Lowest t p ls u
-waiting_at {t} {p} {u} {ls} w e = subst (Waiting t p ls) e w
 
 -- before a turn: n and y are the table's numbers and the graph, m and x what they were at first
 pub record Settling (h : Here) (m : Mem) (x : Graph) (n : Mem) (y : Graph) : Type 0 where
@@ -69,8 +64,8 @@ module _ {h : Here} {m : Mem} {x : Graph} {n : Mem} {y z : Graph} (I : Settling 
     fits : length (links_of z) ≤ h.size
     fits = omega (arith, count z.buf z.links, S.held.core.fits)
 
-    pub settling-ready : {f : (Option ℕ)} → Waiting t p (links_of z) f → f ≡ None → Settles h m x n z
-    settling-ready w q = record {
+    pub settling-ready : Waiting t p (links_of z) Nothing → Settles h m x n z
+    settling-ready w = record {
       kept = I.kept;
       stands = record {
         formed = I.stands.formed;
@@ -80,7 +75,7 @@ module _ {h : Here} {m : Mem} {x : Graph} {n : Mem} {y z : Graph} (I : Settling 
         grounded = saturated-grounded I.stands.grounded saturated;
       };
       from = links_of y;
-      ready = record { saturated = saturated; in_pool = fits; none_left = subst (Waiting t p (links_of z)) q w };
+      ready = record { saturated = saturated; in_pool = fits; none_left = w };
       reaches = I.reaches;
     }
 
@@ -92,18 +87,15 @@ module _ {h : Here} {m : Mem} {x : Graph} {n : Mem} {y z : Graph} (I : Settling 
       }
 
       -- "failure: NO-SETS"
-      pub settling-no-sets : {n' : Mem} {r : Bool} → Expands n n' u r → not r ≡ true → Refuses h m x n' 20
+      pub settling-no-sets : {n' : Mem} {r : Bool} → Expands n n' u r → r ≡ false → Refuses h m x n' 20
       settling-no-sets {r = r} X q = record {
         kept = kept_trans I.kept (kept-expanded settling-expandable X);
         refusal = omega arith;
         steps = λ l. reaches-leads (I.reaches l) _
-            (no_sets saturated fits w (sym X.done ∙ not-true r q) (ap (outcome 20 0) (sym X.table.seen)));
+            (no_sets saturated fits w (sym X.done ∙ q) (ap (outcome 20 0) (sym X.table.seen)));
       }
 
-      module _ {n' : Mem} {r : Bool} (X : Expands n n' u r) (q : not r ≡ false) where
-        done : r ≡ true
-        done = not-false r q
-
+      module _ {n' : Mem} {r : Bool} (X : Expands n n' u r) (done : r ≡ true) where
         later : Later t (view n')
         later = expand-keeps settling-expandable X
 

@@ -1,7 +1,7 @@
 -- What the steps of a parse rely on at a position, and what they come to, in terms of theory's Steps. Assumes nothing.
-use Rattle.std.specs.Prelude.{◌≡◌, List, [], ◌∷◌, ℕ, suc, ◌≤◌}
+use Rattle.std.specs.Prelude.{◌≡◌, List, [], ◌∷◌, ℕ, suc, ◌≤◌, Result, Ok, Err}
 use Rattle.symbols.specs.declared.answer.Answer.{Answer}
-use Rattle.symbols.specs.Answer.{ACCEPT, NO_SETS, number_of, answer_of_parse, links_with}
+use Rattle.symbols.specs.Answer.{ACCEPT, NO_SETS, number_of}
 use Rattle.theory.specs.Table.{Table}
 use Rattle.theory.specs.Parse.{Link, outcome}
 use Rattle.theory.specs.Steps.{Ready, Steps}
@@ -13,16 +13,16 @@ use Rattle.table.specs.Laid.{Formed}
 use Rattle.table.specs.Becomes.{Becomes}
 use Rattle.links.specs.declared.Here.{Here}
 use Rattle.links.specs.declared.Counts.{Counts}
+use Rattle.links.specs.declared.Links.{Links}
 use Rattle.links.specs.Records.{numbers_for, Graph, graph, counts, links_in, links_of}
 use Rattle.links.specs.Held.{Held}
+use Rattle.links.specs.Lent.{graph_of}
 use Rattle.saturation.specs.Ends.{next}
-use Rattle.std.specs.Prelude.{Result}
-use Rattle.symbols.specs.declared.refusal.Refusal.{Refusal}
-use Rattle.symbols.specs.declared.verdict.Verdict.{Verdict}
-use Rattle.positions.specs.declared.settle.Settled.{Settled}
-use Rattle.positions.specs.declared.settle.Settled.TheVariants.{Ready as ReadyWith, Refused}
-use Rattle.positions.specs.declared.Advanced.{Advanced}
-use Rattle.positions.specs.declared.Advanced.TheVariants.{On, Ends}
+use Rattle.positions.specs.declared.Verdict.{Verdict}
+
+-- the verdict of a refusal
+abbrev pub refusal : Answer → Verdict
+refusal a = record { answer = a; links = 0 }
 
 -- a position at hand: the table's numbers and the graph of links, which is valid for the table
 pub record Stands (h : Here) (m : Mem) (x : Graph) : Type 0 where
@@ -54,9 +54,9 @@ pub record Refuses (h : Here) (m : Mem) (x : Graph) (n : Mem) (a : ℕ) : Type 0
   pub steps : (w : List ℕ) → Steps h.size (view m) h.position (links_of x) w (outcome a 0 (view n))
 
 -- what steps 1 and 2 came to
-pub record SettlesOr (h : Here) (m : Mem) (x : Graph) (n : Mem) (b at : List ℕ) (s : Settled) : Type 0 where
-  pub ready : (c : Counts) → s ≡ ReadyWith c → Settles h m x n (graph b at c)
-  pub refused : (a : Answer) → s ≡ Refused a → Refuses h m x n (number_of a)
+abbrev pub SettlesOr : Here → Mem → Graph → Mem → Graph → Result (Unit {0}) Answer → Type 0
+SettlesOr h m x n y (Ok _) = Settles h m x n y
+SettlesOr h m x n y (Err a) = Refuses h m x n (number_of a)
 
 -- the next position, after the token k; its nodes are those from s on
 pub record Advances (h : Here) (k : ℕ) (m : Mem) (x : Graph) (s : ℕ) (n : Mem) (y : Graph) : Type 0 where
@@ -76,19 +76,19 @@ pub record Holds (pool : ℕ) (t : Table) (p : ℕ) (ls : List Link) (w : List �
   pub ready : Ready pool (view n) last.position from (links_in b l)
 
 -- the end of a parse with the tokens w to come; b is the buffer that it leaves
-pub record Finishes (h : Here) (w : List ℕ) (m : Mem) (x : Graph) (n : Mem) (b : List ℕ) (v : Result Verdict Refusal) : Type 0 where
+pub record Finishes (h : Here) (w : List ℕ) (m : Mem) (x : Graph) (n : Mem) (b : List ℕ) (v : Verdict) : Type 0 where
   pub kept : Kept m n
-  pub steps : Steps h.size (view m) h.position (links_of x) w (outcome (number_of (answer_of_parse v)) (links_with v) (view n))
-  pub accepted : number_of (answer_of_parse v) ≡ ACCEPT → Holds h.size (view m) h.position (links_of x) w n b (links_with v)
+  pub steps : Steps h.size (view m) h.position (links_of x) w (outcome (number_of v.answer) v.links (view n))
+  pub accepted : number_of v.answer ≡ ACCEPT → Holds h.size (view m) h.position (links_of x) w n b v.links
 
--- what the steps of a position before the last came to
-pub record AdvancesOr (h : Here) (k : ℕ) (m : Mem) (x : Graph) (n : Mem) (b at : List ℕ) (a : Advanced) : Type 0 where
-  pub on : (s : ℕ) (c : Counts) → a ≡ On s c → Advances h k m x s n (graph b at c)
-  pub ends : (v : Result Verdict Refusal) → a ≡ Ends v → (w : List ℕ) → Finishes h (k ∷ w) m x n b v
+-- what the steps of a position before the last came to: y is then at the next one, or the parse has ended
+abbrev pub AdvancesOr : Here → ℕ → Mem → Graph → Mem → Links → Result (Unit {0}) Verdict → Type 0
+AdvancesOr h k m x n y (Ok _) = (y.here ≡ next h y.here.start) × Advances h k m x y.here.start n (graph_of y)
+AdvancesOr h k m x n y (Err v) = (w : List ℕ) → Finishes h (k ∷ w) m x n y.buf.now v
 
 -- the same two of a settled position, whatever place it was settled from
-abbrev pub MovesOn : Here → ℕ → Mem → Graph → List ℕ → List ℕ → Advanced → Type 0
-MovesOn h k n y b at a = (m : Mem) (x : Graph) → Settles h m x n y → AdvancesOr h k m x n b at a
+abbrev pub MovesOn : Here → ℕ → Mem → Graph → Links → Result (Unit {0}) Verdict → Type 0
+MovesOn h k n y z a = (m : Mem) (x : Graph) → Settles h m x n y → AdvancesOr h k m x n z a
 
 abbrev pub Judges : Here → Mem → List ℕ → Counts → Verdict → Type 0
 Judges h n b c v = (m : Mem) (x : Graph) (at : List ℕ) → Settles h m x n (graph b at c) → Finishes h [] m x n b v
@@ -100,7 +100,7 @@ pub record Readable (pool : ℕ) (line : List ℕ) (m : Mem) (room : ℕ) : Type
   pub fits : Fits pool line
 
 -- the whole line
-pub record Reads (pool : ℕ) (line : List ℕ) (m n : Mem) (b : List ℕ) (v : Result Verdict Refusal) : Type 0 where
+pub record Reads (pool : ℕ) (line : List ℕ) (m n : Mem) (b : List ℕ) (v : Verdict) : Type 0 where
   pub kept : Kept m n
-  pub steps : Steps pool (view m) 0 [] line (outcome (number_of (answer_of_parse v)) (links_with v) (view n))
-  pub accepted : number_of (answer_of_parse v) ≡ ACCEPT → Holds pool (view m) 0 [] line n b (links_with v)
+  pub steps : Steps pool (view m) 0 [] line (outcome (number_of v.answer) v.links (view n))
+  pub accepted : number_of v.answer ≡ ACCEPT → Holds pool (view m) 0 [] line n b v.links

@@ -3,21 +3,23 @@
 // A position is settled: its links saturated and the sets of its nodes expanded, in turn, until neither brings anything new. Then
 // its token is shifted, or at the end of the line the accept mark looked for.
 //
-// `buf` is the pool's part of the link buffer, `at` and `work` are the work numbers of `links` and `levels`. Each function hands the
-// counts of nodes and links on by value. What each promises is said by the steps of theory/specs/Steps.antt: from the place that was
-// entered they reach the place that is left (theory/specs/Reaches.antt), or end. So `read` has, in the end, 01's steps from the first
-// position to the verdict; and where that is accept, the graph of links is what the buffer holds (`holds-graph`).
+// `buf` is the pool's part of the link buffer, `at` and `work` are the work numbers of `links` and `levels`. What each function
+// promises is said by the steps of theory/specs/Steps.antt: from the place that was entered they reach the place that is left
+// (theory/specs/Reaches.antt), or end. So `read` has, in the end, 01's steps from the first position to the verdict; and where that is
+// accept, the graph of links is what the buffer holds (`holds-graph`).
 #![tactic(auto)]
 
 ghost use Rattle.std.specs.Prelude.{[], ◌≡◌, ◌≤◌, ◌<◌, length};
 ghost use Rattle.table.specs.Layout.{mem, sets_in};
 ghost use Rattle.table.specs.Laid.{Formed};
-ghost use Rattle.links.specs.Records.{graph};
+ghost use Rattle.links.specs.Records.{counts};
+ghost use Rattle.links.specs.Held.{Held};
+ghost use Rattle.links.specs.Lent.{graph_of, root, SameSlices, SamePlace};
 ghost use Rattle.saturation.specs.Ends.{Standing};
-ghost use Rattle.positions.specs.Reading.{Stands, AdvancesOr, MovesOn, Finishes, Judges, Readable, Reads};
+ghost use Rattle.positions.specs.Reading.{Stands, AdvancesOr, MovesOn, Finishes, Judges, Readable, Reads, refusal};
 
-use links::{Counts, Here};
-use settle::{Settled, settle};
+use links::{Counts, Here, Links};
+use settle::settle;
 use symbols::Answer;
 
 mod settle; // settle.rt: a position settled
@@ -29,11 +31,12 @@ pub struct Verdict {
     pub links: usize,
 }
 
-// What came of a position before the last: the next position, with its first node, or the end of the parse.
-#[derive(Clone, Copy)]
-pub enum Advanced {
-    On(usize, Counts),
-    Ends(Verdict),
+impl From<Answer> for Verdict {
+    ghost from_gives = { λ a v. v ≡ refusal a };
+
+    fn from(answer: Answer) -> Verdict {
+        Verdict { answer, links: 0 }
+    }
 }
 
 // Reads the line, position by position. On accept the buffer is left with the graph of the whole line.
@@ -52,140 +55,128 @@ pub fn read(
     ensures { Reads size line.now (mem rules.old cells.old words.old)
         (mem rules.new cells.new words.new) buf.new result }
 {
-    let sets = table::sets_in(rules);
-    let mut c = links::begin(buf, at, size, sets);
-    let mut start = 0;
-    let mut p = 0;
-    while p < line.len() {
-        let here = Here {
-            position: p,
-            start,
-            size,
-            sets,
-        };
-        let a = advance(
-            rules,
-            cells,
-            words,
-            buf,
-            at,
-            work,
-            c,
-            here,
-            line[p] as usize,
-        );
-        match a {
-            Advanced::On(first, d) => {
-                start = first;
-                c = d;
-            }
-            Advanced::Ends(v) => return v,
-        }
-        p += 1;
-    }
-    let last = Here {
-        position: p,
-        start,
+    let here = Here {
+        position: 0,
+        start: 0,
         size,
-        sets,
+        sets: table::sets_in(rules),
     };
-    finish(rules, cells, words, buf, at, work, c, last)
+    let counts = Counts::default();
+    let mut links = Links {
+        buf,
+        at,
+        counts,
+        here,
+    };
+    links.begin();
+    read_line(&mut links, work, line, rules, cells, words)
 }
 
-// A position before the last: settles it and moves on.
-fn advance(
+// The same from the graph of the root alone.
+fn read_line(
+    links: &mut Links,
+    work: &mut [u16],
+    line: &[u8],
     rules: &mut [u8],
     cells: &mut [u8],
     words: &mut [u64],
-    buf: &mut [u16],
-    at: &mut [u16],
-    work: &mut [u16],
-    c: Counts,
-    here: Here,
-    token: usize,
-) -> Advanced
-    requires stands { Stands here (mem rules.old cells.old words.old) (graph buf.old at.old c) × (length work.old ≡ 12291) }
-    requires position_bound { (here.position < 255) × ((1 ≤ token) × (token < 128)) }
-    ensures { AdvancesOr here token (mem rules.old cells.old words.old)
-        (graph buf.old at.old c) (mem rules.new cells.new words.new)
-        buf.new at.new result }
+) -> Verdict
+    requires readable { Readable links.old.here.size line.now (mem rules.old cells.old words.old) (length links.old.buf.now) }
+    requires begun { (links.old.counts ≡ counts 1 0 0) × ((links.old.here ≡ root links.old.here.size (sets_in rules.old)) × Held links.old.here (graph_of links.old)) }
+    requires work_len { length work.old ≡ 12291 }
+    ensures same_slices { SameSlices links.old links.new }
+    ensures reads { Reads links.old.here.size line.now (mem rules.old cells.old words.old)
+        (mem rules.new cells.new words.new) links.new.buf.now result }
 {
-    let s = settle(rules, cells, words, buf, at, work, c, here);
-    match s {
-        Settled::Refused(answer) => Advanced::Ends(Verdict { answer, links: 0 }),
-        Settled::Ready(d) => move_on(buf, at, rules, cells, words, d, here, token),
+    for &token in line {
+        let moved = advance(links, work, token as usize, rules, cells, words);
+        if let Err(end) = moved {
+            return end;
+        }
     }
+    finish(links, work, rules, cells, words)
+}
+
+// A position before the last: settles it and moves on. An error is the end of the parse.
+fn advance(
+    links: &mut Links,
+    work: &mut [u16],
+    token: usize,
+    rules: &mut [u8],
+    cells: &mut [u8],
+    words: &mut [u64],
+) -> Result<(), Verdict>
+    requires stands { Stands links.old.here (mem rules.old cells.old words.old) (graph_of links.old) × (length work.old ≡ 12291) }
+    requires position_bound { (links.old.here.position < 255) × ((1 ≤ token) × (token < 128)) }
+    ensures same_slices { SameSlices links.old links.new }
+    ensures advances { AdvancesOr links.old.here token (mem rules.old cells.old words.old)
+        (graph_of links.old) (mem rules.new cells.new words.new) links.new result }
+{
+    settle(links, work, rules, cells, words)?;
+    move_on(links, token, rules, cells, words)
 }
 
 // Shifts the token at a settled position: to the next one, if a node here takes it and its links fit.
 fn move_on(
-    buf: &mut [u16],
-    at: &mut [u16],
+    links: &mut Links,
+    token: usize,
     rules: &[u8],
     cells: &[u8],
     words: &[u64],
-    c: Counts,
-    here: Here,
-    token: usize,
-) -> Advanced
-    requires stands { Stands here (mem rules.now cells.now words.now) (graph buf.old at.old c) }
-    requires position_bound { (here.position < 255) × ((1 ≤ token) × (token < 128)) }
-    ensures { MovesOn here token (mem rules.now cells.now words.now)
-        (graph buf.old at.old c) buf.new at.new result }
+) -> Result<(), Verdict>
+    requires stands { Stands links.old.here (mem rules.now cells.now words.now) (graph_of links.old) }
+    requires position_bound { (links.old.here.position < 255) × ((1 ≤ token) × (token < 128)) }
+    ensures same_slices { SameSlices links.old links.new }
+    ensures moves { MovesOn links.old.here token (mem rules.now cells.now words.now)
+        (graph_of links.old) links.new result }
 {
-    let d = saturation::shift(buf, at, rules, cells, words, c, here, token);
-    if d.over != 0 {
-        return Advanced::Ends(Verdict {
-            answer: Answer::NoLinks,
-            links: 0,
-        });
+    let had = links.counts.links;
+    saturation::shift(links, token, rules, cells, words);
+    if links.counts.over != 0 {
+        return Err(Verdict::from(Answer::NoLinks));
     }
-    if d.links == c.links {
-        return Advanced::Ends(Verdict {
+    if links.counts.links == had {
+        return Err(Verdict {
             answer: Answer::Reject,
-            links: c.links,
+            links: had,
         });
     }
-    Advanced::On(c.nodes, d)
+    Ok(())
 }
 
 // The last position: settles it and judges.
 fn finish(
+    links: &mut Links,
+    work: &mut [u16],
     rules: &mut [u8],
     cells: &mut [u8],
     words: &mut [u64],
-    buf: &mut [u16],
-    at: &mut [u16],
-    work: &mut [u16],
-    c: Counts,
-    here: Here,
 ) -> Verdict
-    requires { Stands here (mem rules.old cells.old words.old) (graph buf.old at.old c) × (length work.old ≡ 12291) }
-    ensures { Finishes here [] (mem rules.old cells.old words.old)
-        (graph buf.old at.old c) (mem rules.new cells.new words.new)
-        buf.new result }
+    requires { Stands links.old.here (mem rules.old cells.old words.old) (graph_of links.old) × (length work.old ≡ 12291) }
+    ensures same { SamePlace links.old links.new }
+    ensures finishes { Finishes links.old.here [] (mem rules.old cells.old words.old)
+        (graph_of links.old) (mem rules.new cells.new words.new)
+        links.new.buf.now result }
 {
-    let s = settle(rules, cells, words, buf, at, work, c, here);
-    match s {
-        Settled::Refused(answer) => Verdict { answer, links: 0 },
-        Settled::Ready(d) => judge(buf, rules, cells, words, d, here),
+    match settle(links, work, rules, cells, words) {
+        Ok(()) => judge(links, rules, cells, words),
+        Err(answer) => Verdict::from(answer),
     }
 }
 
 // The verdict at a settled position: accept if a node here has the accept mark.
-fn judge(buf: &[u16], rules: &[u8], cells: &[u8], words: &[u64], c: Counts, here: Here) -> Verdict
-    requires standing { Standing here buf.now c }
-    requires formed { Formed (mem rules.now cells.now words.now) × (here.sets ≡ sets_in rules.now) }
-    ensures { Judges here (mem rules.now cells.now words.now) buf.now c result }
+fn judge(links: &Links, rules: &[u8], cells: &[u8], words: &[u64]) -> Verdict
+    requires standing { Standing links.now.here links.now.buf.now links.now.counts }
+    requires formed { Formed (mem rules.now cells.now words.now) × (links.now.here.sets ≡ sets_in rules.now) }
+    ensures { Judges links.now.here (mem rules.now cells.now words.now) links.now.buf.now links.now.counts result }
 {
-    if saturation::accepts(buf, rules, cells, words, c, here) {
-        return Verdict {
-            answer: Answer::Accept,
-            links: c.links,
-        };
-    }
+    let answer = if saturation::accepts(links, rules, cells, words) {
+        Answer::Accept
+    } else {
+        Answer::Reject
+    };
     Verdict {
-        answer: Answer::Reject,
-        links: c.links,
+        answer,
+        links: links.counts.links,
     }
 }

@@ -1,22 +1,21 @@
 -- What Parse promises follows from its checks and from the steps that it did. Assumes nothing.
 use mathlib.Core.Bool.{Bool, true, false}
 use mathlib.Core.Path.{◌≡◌, refl, sym, ◌∙◌, ap, subst}
-use mathlib.Core.Logic.{inl, inr, ⊎_elim}
+use mathlib.Core.Logic.{◌↔◌, inl, inr, ⊎_elim}
 use mathlib.Core.List.{List, ◌++◌}
 use Prim.Native.Nat.{ℕ, ◌+◌, ◌-◌, ◌≤◌, ◌<◌}
 use native.Mathlib.Omega.{arith}
-use borrow.Author.Tests.{leb-true, leb-false}
 use lib.Dec.{T, leb, leb→le, le→leb}
 use lib.ListN.{length, get_or, take, drop}
 use lib.Seq.{length-take-le, take_at, drop_at, get_or-drop}
-use Rattle.laws.specs.Choice.{Tells}
+use Rattle.std.specs.Prelude.{IsTrue, EachIndex, slice_index}
 use Rattle.laws.proofs.Choice.{when-cases}
 use Rattle.symbols.specs.declared.answer.Answer.{Answer}
-use Rattle.symbols.specs.Answer.{number_of, answer_of_parse, links_with}
+use Rattle.symbols.specs.Answer.{number_of}
 use Rattle.theory.specs.Table.{Table}
 use Rattle.theory.specs.Form.{InForm, in_form}
 use Rattle.theory.specs.Parse.{Outcome, outcome}
-use Rattle.theory.specs.Calls.{refused, checked, parse}
+use Rattle.theory.specs.Calls.{refused, checked, parse, all_tokens}
 use Rattle.theory.proofs.Form.{in_form_lem}
 use Rattle.theory.proofs.Checks.{Parsed, parsed}
 use Rattle.theory.proofs.Checks.Parsed.{bad_table as p-table, bad_pool as p-pool, long_line as p-line, bad_token as p-token, read as p-read}
@@ -28,16 +27,14 @@ use Rattle.table.specs.Laid.{Formed}
 use Rattle.table.specs.Becomes.{Becomes}
 use Rattle.links.specs.Records.{numbers_for}
 use Rattle.links.specs.Held.{Cleared}
-use Rattle.laws.proofs.Tests.{fails}
-use Rattle.std.specs.Prelude.{Result}
-use Rattle.symbols.specs.declared.refusal.Refusal.{Refusal}
-use Rattle.symbols.specs.declared.verdict.Verdict.{Verdict}
+use Rattle.laws.proofs.Tests.{all-below, passes, fails}
+use Rattle.symbols.specs.Symbol.{terminal}
+use Rattle.positions.specs.declared.Verdict.{Verdict}
 use Rattle.positions.specs.Reading.{Readable, Reads}
 use Rattle.positions.proofs.Kept.{kept-none}
-use Rattle.recogniser.specs.declared.refusals.Checked.TheVariants.{Passed, Refused}
 use Rattle.recogniser.specs.Parse.{lent_parse, Past, Parses}
 use Rattle.recogniser.specs.Reading.{ReadsOver}
-use Rattle.recogniser.specs.Check.{PoolFits, Refusal, Checks}
+use Rattle.recogniser.specs.Check.{Refusal}
 use Rattle.recogniser.specs.Check.Refusal.{bad_table, bad_pool, long_line, bad_token}
 
 between : {a : ℕ} → Past a → 2 < a → a < 20 → ⊥
@@ -52,7 +49,7 @@ pub part-roomy : (n : ℕ) (b : List ℕ) → n ≤ length b → n ≤ length (t
 part-roomy n b h = omega (arith, part_length n b h)
 
 -- given back as the list y
-pub part_read : {pool : ℕ} {line : List ℕ} {m n : Mem} {b : List ℕ} {v : Result Verdict Refusal} (y : List ℕ) → numbers_for pool ≤ length b
+pub part_read : {pool : ℕ} {line : List ℕ} {m n : Mem} {b : List ℕ} {v : Verdict} (y : List ℕ) → numbers_for pool ≤ length b
     → length y ≡ length (take (numbers_for pool) b) → Reads pool line m n y v → ReadsOver pool line m n b (y ++ drop (numbers_for pool) b) v
 part_read {pool} {line} {m} {n} {b} {v} y r l s = record {
   reads = subst (λ y. Reads pool line m n y v) (sym (take_at y _ _ whole)) s;
@@ -72,28 +69,23 @@ cleared_since {n} {b} {c} e z = record { low = z.low; high = λ i h. z.high i h 
         subst (λ i. get_or c i 0 ≡ get_or b i 0) k
         (sym (get_or-drop n c (i - n) 0) ∙ ap (λ l. get_or l (i - n) 0) e ∙ get_or-drop n b (i - n) 0)
 
--- ---- each result of the checks is one of those that the contract names
+-- ---- the tokens
 
-module _ {m : Mem} {room pool : ℕ} {line : List ℕ} where
-  pub came_passed : Readable pool line m room → Checks m room pool line Passed
-  came_passed r = record { passed = λ e. r; refused = λ a e. absurd (let z : ◌≡◌ {A = ℕ} 0 1 = cc in omega arith) }
+true_of : (b : Bool) → T b → b ≡ true
+true_of true t = refl
+true_of false t = absurd t
 
-  pub came_refused : {a : Answer} → Refusal m room pool line a → Checks m room pool line (Refused a)
-  came_refused {a} r = record {
-    passed = λ e. absurd (let z : ◌≡◌ {A = ℕ} 0 1 = cc in omega arith);
-    refused = λ a' e. subst (Refusal m room pool line) (the e) r;
-  }
-    where
-      the : {a' : Answer} → Refused a ≡ Refused a' → a ≡ a'
-      the e = cc
+same_test : (a b : Bool) → (a ≡ true → T b) → (T b → a ≡ true) → a ≡ b
+same_test true true f g = refl
+same_test true false f g = absurd (f refl)
+same_test false true f g = g tt
+same_test false false f g = refl
 
--- the test of the pool, once its size is in range
-pub pool-told : (room pool : ℕ) → pool ≤ 4096 → Tells (leb (numbers_for pool) room) (PoolFits room pool)
-pool-told room pool h = go (leb (numbers_for pool) room) refl
-  where
-    go : (b : Bool) → leb (numbers_for pool) room ≡ b → Tells b (PoolFits room pool)
-    go true e = (h, leb-true (numbers_for pool) room e)
-    go false e = λ (_, l). let k = leb-false (numbers_for pool) room e in omega arith
+pub each-token : (b : Bool) (line : List ℕ) → IsTrue b ↔ EachIndex line (λ k. IsTrue (terminal (slice_index line k))) → b ≡ all_tokens line
+unfolding all_tokens
+each-token b line e =
+    let each = all-below (length line) (λ k. terminal (get_or line k 0)) in
+    same_test b _ (λ h. each.1 (λ k l. passes (e.0 h k l))) (λ t. e.1 (λ k l. true_of _ (each.0 t k l)))
 
 -- ---- a refusal
 
@@ -164,18 +156,18 @@ module _ (m : Mem) (pool : ℕ) (line b : List ℕ) where
 
   -- ---- a parse that got past its checks
 
-  module _ (R : Readable pool line m (length b)) {n : Mem} {c : List ℕ} {v : Result Verdict Refusal} (S : ReadsOver pool line m n b c v) where
-    is : parse t pool line ≡ outcome (number_of (answer_of_parse v)) (links_with v) (view n)
+  module _ (R : Readable pool line m (length b)) {n : Mem} {c : List ℕ} {v : Verdict} (S : ReadsOver pool line m n b c v) where
+    is : parse t pool line ≡ outcome (number_of v.answer) v.links (view n)
     is = (outcome_of_steps t R.formed.form pool line R.fits _).1 S.reads.steps
 
-    lent : lent_parse b pool line t ≡ outcome (number_of (answer_of_parse v)) (links_with v) (view n)
+    lent : lent_parse b pool line t ≡ outcome (number_of v.answer) v.links (view n)
     lent = roomy R.roomy ∙ is
 
-    past : Past (number_of (answer_of_parse v))
+    past : Past (number_of v.answer)
     past = go (subst (Answered line) (sym (past_checks_lem t R.formed.form pool line R.fits) ∙ is)
         (parsing-answers pool t line R.formed.form))
       where
-        go : Answered line (outcome (number_of (answer_of_parse v)) (links_with v) (view n)) → Past (number_of (answer_of_parse v))
+        go : Answered line (outcome (number_of v.answer) v.links (view n)) → Past (number_of v.answer)
         go (verdict_given a z) = ⊎_elim inl (λ e. inr (inl e)) a
         go (no_room a z) = ⊎_elim (λ e. inr (inr (inl e))) (λ e. inr (inr (inr e))) a
 

@@ -1,5 +1,5 @@
 -- Parse's checks: "Parse checks 11, then 10 (links), 18, 19." Assumes nothing.
-use Rattle.std.specs.Prelude.{◌≡◌, List, ℕ, ◌≤◌, ◌<◌, T, length}
+use Rattle.std.specs.Prelude.{List, ℕ, ◌≤◌, ◌<◌, T, length, Result, Ok, Err}
 use Rattle.symbols.specs.declared.answer.Answer.{Answer}
 use Rattle.symbols.specs.declared.answer.Answer.TheVariants.{BadPool, BadTable, LongLine, BadToken}
 use Rattle.theory.specs.Calls.{all_tokens}
@@ -7,8 +7,6 @@ use Rattle.table.specs.Layout.{Mem}
 use Rattle.table.specs.Laid.{Formed}
 use Rattle.links.specs.Records.{numbers_for}
 use Rattle.positions.specs.Reading.{Readable}
-use Rattle.recogniser.specs.declared.refusals.Checked.{Checked}
-use Rattle.recogniser.specs.declared.refusals.Checked.TheVariants.{Passed, Refused}
 
 -- "BAD-POOL: .. Parse's link size outside its range, or the slices lent for them too short": it is neither, over so many numbers
 abbrev pub PoolFits : (room pool : ℕ) → Type 0
@@ -21,6 +19,7 @@ pub data Refusal (m : Mem) (room pool : ℕ) (line : List ℕ) : Answer → Type
   long_line : Formed m → PoolFits room pool → 255 < length line → Refusal m room pool line LongLine
   bad_token : Formed m → PoolFits room pool → length line ≤ 255 → (T (all_tokens line) → ⊥) → Refusal m room pool line BadToken
 
-pub record Checks (m : Mem) (room pool : ℕ) (line : List ℕ) (r : Checked) : Type 0 where
-  pub passed : r ≡ Passed → Readable pool line m room
-  pub refused : (a : Answer) → r ≡ Refused a → Refusal m room pool line a
+-- what the checks found
+abbrev pub Checks : Mem → (room pool : ℕ) → List ℕ → Result (Unit {0}) Answer → Type 0
+Checks m room pool line (Ok _) = Readable pool line m room
+Checks m room pool line (Err a) = Refusal m room pool line a

@@ -28,7 +28,6 @@ ghost use Rattle.recogniser.specs.Parse.{Parses};
 ghost use Rattle.recogniser.specs.Reading.{ReadsOver};
 
 use positions::Verdict;
-use refusals::Checked;
 
 mod refusals; // refusals.rt: what is refused before anything is touched
 
@@ -44,15 +43,12 @@ pub fn parse(
     ensures { Parses pool line.now (mem rules.old cells.old words.old)
         (mem rules.new cells.new words.new) links.old links.new result }
 {
-    let c = refusals::check(rules, cells, words, links.len(), pool, line);
-    match c {
-        Checked::Refused(answer) => Verdict { answer, links: 0 },
-        Checked::Passed => {
-            let v = read(rules, cells, words, links, pool, line);
-            clear(links, pool);
-            v
-        }
+    if let Err(answer) = refusals::check(rules, cells, words, links.len(), pool, line) {
+        return Verdict::from(answer);
     }
+    let v = read(rules, cells, words, links, pool, line);
+    clear(links, pool);
+    v
 }
 
 // Reads a line that passed the checks, over the pool's part of the link buffer, and leaves the graph of links there. Here stand the

@@ -12,14 +12,7 @@ const MOST_LINKS: usize = 4096;
 
 const MOST_TOKENS: usize = 255;
 
-// What the checks found.
-#[derive(Clone, Copy)]
-pub enum Checked {
-    Passed,
-    Refused(Answer),
-}
-
-// Parse's checks, in 01's order; the link buffer has `room` numbers.
+// Parse's checks, in 01's order; the link buffer has `room` numbers. An error is the refusal.
 pub fn check(
     rules: &[u8],
     cells: &[u8],
@@ -27,46 +20,34 @@ pub fn check(
     room: usize,
     pool: usize,
     line: &[u8],
-) -> Checked
+) -> Result<(), Answer>
     ensures { Checks (mem rules.now cells.now words.now) room pool line.now result }
 {
-    let formed = form::is_formed(rules, cells, words);
-    let fits = pool_fits(room, pool);
-    if !formed {
-        return Checked::Refused(Answer::BadTable);
+    if !form::is_formed(rules, cells, words) {
+        return Err(Answer::BadTable);
     }
-    if !fits {
-        return Checked::Refused(Answer::BadPool);
+    if !pool_fits(room, pool) {
+        return Err(Answer::BadPool);
     }
     if line.len() > MOST_TOKENS {
-        return Checked::Refused(Answer::LongLine);
+        return Err(Answer::LongLine);
     }
     if !are_tokens(line) {
-        return Checked::Refused(Answer::BadToken);
+        return Err(Answer::BadToken);
     }
-    Checked::Passed
+    Ok(())
 }
 
 // Whether the link size is in its range and the link buffer long enough for it.
 fn pool_fits(room: usize, pool: usize) -> bool
     ensures { Tells result (PoolFits room pool) }
 {
-    if pool > MOST_LINKS {
-        return false;
-    }
-    (pool + 1) * links::RECORD <= room
+    pool <= MOST_LINKS && (pool + 1) * links::RECORD <= room
 }
 
 // Whether each number of the line is a terminal.
 fn are_tokens(line: &[u8]) -> bool
     ensures { result ≡ all_tokens line.now }
 {
-    let mut i = 0;
-    while i < line.len() {
-        if !Symbol(line[i]).is_terminal() {
-            return false;
-        }
-        i += 1;
-    }
-    true
+    line.iter().all(|&x| Symbol(x).is_terminal())
 }

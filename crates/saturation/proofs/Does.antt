@@ -1,7 +1,6 @@
 -- Steps that bring links to given nodes: one after the other. Assumes nothing.
-use mathlib.Core.Path.{◌≡◌, refl, sym, ◌∙◌, ap, ap₂, subst}
+use mathlib.Core.Path.{◌≡◌, sym, ◌∙◌, ap, ap₂, subst}
 use mathlib.Core.Logic.{◌≢◌, ◌⊎◌, inl, inr, ⊎_elim}
-use mathlib.Core.List.Memᴰ
 use mathlib.Core.List.{List, Memᴰ as In}
 use Prim.Native.Nat.{ℕ, ◌+◌, ◌*◌, ◌≤◌, ◌<◌}
 use native.Mathlib.Decide.{ℕ_discrete}
@@ -12,7 +11,7 @@ use Rattle.theory.specs.Parse.{Link, link}
 use Rattle.theory.specs.Steps.{Linked}
 use Rattle.links.specs.declared.Here.{Here}
 use Rattle.links.specs.Records.{position, in_set, Graph, links_of}
-use Rattle.links.specs.Held.{Held, Adds}
+use Rattle.links.specs.Held.{Held}
 use Rattle.links.proofs.Listed.{in_grown, same-links, grown_refl, grown_trans}
 use Rattle.levels.specs.Lists.{listed}
 use Rattle.saturation.specs.Wanted.{ToNode, ToList, ToSpan}
@@ -37,7 +36,7 @@ does-next {h} {W₁} {W₂} {W} {x} {y} {z} D E f g k = record {
         let q : z.links ≡ y.links = omega (arith, E.grown.links, E.held.core.fits) in
         inr (q ∙ e, l, g l w, λ m. n (subst (In l) (same-links E.grown q) m))
 
--- ---- to one node, with its set's number t as it was read
+-- ---- to one node
 
 pub to-node-by : {b c cells : List ℕ} {p x m : ℕ} {l : Link} → position c m ≡ position b m → in_set c m ≡ in_set b m → ToNode b cells p x m l → ToNode c cells p x m l
 to-node-by {b} {c} {cells} {p} {x} {m} e f w = record {
@@ -47,31 +46,9 @@ to-node-by {b} {c} {cells} {p} {x} {m} e f w = record {
   the = w.the ∙ ap₂ (λ i u. link p w.s i u) (sym e) (sym f);
 }
 
-module _ {h : Here} {x : Graph} (cells : List ℕ) (a m t : ℕ) (is : t ≡ in_set x.buf m) where
-  pub to_none : Held h x → get_or cells (t * 128 + a) 0 ≡ 0 → Does h (ToNode x.buf cells h.position a m) x x
-  to_none H z = does-nothing H (λ l w. w.some (sym w.is ∙ ap (λ u. get_or cells (u * 128 + a) 0) (sym is) ∙ z))
-
-  pub to-added : {y : Graph} → get_or cells (t * 128 + a) 0 ≢ 0 → Adds h (get_or cells (t * 128 + a) 0) m x y → Does h (ToNode x.buf cells h.position a m) x y
-  to-added {y} d A = record {
-    held = A.held;
-    grown = A.grown;
-    there = λ o l w. Memᴰ.cast (w.the ∙ ap (λ s. link h.position s (position x.buf m) (in_set x.buf m)) (sym w.is ∙ sym at)) (A.there o);
-    only = λ l n. ⊎_elim inl (λ e. inr (wanted l e)) (A.only l n);
-    full = λ o. ⊎_elim inl (λ (e, n). inr (e, link h.position (get_or cells (t * 128 + a) 0) (position x.buf m) (in_set x.buf m), wanted _ refl, n)) (A.full o);
-  }
-    where
-      at : get_or cells (t * 128 + a) 0 ≡ get_or cells (in_set x.buf m * 128 + a) 0
-      at = ap (λ u. get_or cells (u * 128 + a) 0) is
-
-      wanted : (l : Link) → l ≡ link h.position (get_or cells (t * 128 + a) 0) (position x.buf m) (in_set x.buf m) → ToNode x.buf cells h.position a m l
-      wanted l e = record { s = get_or cells (t * 128 + a) 0; is = sym at; some = d; the = e }
-
 -- ---- to the nodes of a list
 
 module _ {h : Here} {x : Graph} (cells w : List ℕ) (side a : ℕ) where
-  pub list-start : Held h x → Does h (ToList x.buf cells w side h.position a 0) x x
-  list-start H = does-nothing H (λ l w. let q = w.low in omega arith)
-
   pub list-next : {y z : Graph} (j m : ℕ) → m ≡ listed w side j → m < x.nodes → Does h (ToList x.buf cells w side h.position a j) x y
       → Does h (ToNode y.buf cells h.position a m) y z → Does h (ToList x.buf cells w side h.position a (j + 1)) x z
   list-next {y} {z} j m e low D E = does-next D E split
@@ -85,15 +62,9 @@ module _ {h : Here} {x : Graph} (cells w : List ℕ) (side a : ℕ) where
         | no q ↦ inl (record { j = v.j; low = let r = v.low in omega arith; to = v.to })
       ]
 
-  pub list-end : {y : Graph} (j c : ℕ) → j ≡ c → Does h (ToList x.buf cells w side h.position a j) x y → Does h (ToList x.buf cells w side h.position a c) x y
-  list-end {y} j c e D = subst (λ c. Does h (ToList x.buf cells w side h.position a c) x y) e D
-
 -- ---- to the nodes from lo on
 
 module _ {h : Here} {x : Graph} (cells : List ℕ) (a lo : ℕ) where
-  pub span-start : Held h x → Does h (ToSpan x.buf cells h.position a lo lo) x x
-  span-start H = does-nothing H (λ l w. let p = w.from in let q = w.low in omega arith)
-
   pub span-next : {y z : Graph} (m : ℕ) → m < x.nodes → lo ≤ m → Does h (ToSpan x.buf cells h.position a lo m) x y
       → Does h (ToNode y.buf cells h.position a m) y z → Does h (ToSpan x.buf cells h.position a lo (m + 1)) x z
   span-next {y} {z} m low g D E = does-next D E split
@@ -105,9 +76,6 @@ module _ {h : Here} {x : Graph} (cells : List ℕ) (a lo : ℕ) where
         | yes z ↦ inr (to-node-by (D.grown.position_same m low) (D.grown.set_same m low) (subst (λ i. ToNode x.buf cells h.position a i l) z w.to))
         | no z ↦ inl (record { m = w.m; from = w.from; low = let r = w.low in omega arith; to = w.to })
       ]
-
-  pub span-end : {y : Graph} (m n : ℕ) → m ≡ n → Does h (ToSpan x.buf cells h.position a lo m) x y → Does h (ToSpan x.buf cells h.position a lo n) x y
-  span-end {y} m n e D = subst (λ m. Does h (ToSpan x.buf cells h.position a lo m) x y) e D
 
 -- ---- where W is made by reductions, what is left is
 

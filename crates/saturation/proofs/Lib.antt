@@ -1,7 +1,6 @@
 -- How the steps come together.
 pub mod Table
 pub mod Does
-pub mod Next
 pub mod Works
 pub mod Nodes
 pub mod Passed

@@ -2,12 +2,12 @@
 use mathlib.Core.Bool.{Bool, true, false}
 use mathlib.Core.Path.{◌≡◌, sym, ◌∙◌, ap, subst}
 use mathlib.Core.Logic.{◌≢◌, ◌↔◌}
-use mathlib.Core.List.{List, Memᴰ as In}
+use mathlib.Core.List.{Memᴰ as In}
 use Prim.Native.Nat.{ℕ, ◌+◌, ◌*◌, ◌≤◌, ◌<◌}
-use native.Mathlib.Decide.{ℕ_discrete, dec_lt}
 use native.Mathlib.Omega.{arith}
 use lib.Dec.{T}
 use lib.ListN.{get_or}
+use Rattle.std.specs.Prelude.{None}
 use Rattle.laws.specs.Choice.{Tells}
 use Rattle.laws.proofs.Tests.{eqb_iff}
 use Rattle.theory.specs.Table.{UNEXPANDED, SetPlace, set_at}
@@ -18,7 +18,7 @@ use Rattle.table.proofs.Read.{set_read, state-unexpanded}
 use Rattle.links.specs.declared.Here.{Here}
 use Rattle.links.specs.Records.{in_set, Graph, links_of}
 use Rattle.links.specs.Held.{Held}
-use Rattle.saturation.specs.Ends.{Accepting, Marked, LowestIn, Lower}
+use Rattle.saturation.specs.Ends.{Accepting, Marked, LowestAt, LowestIn}
 use Rattle.saturation.proofs.Nodes.{here_in, here_of, set-low}
 
 -- ---- what a mark says
@@ -60,68 +60,20 @@ module _ (m : Mem) {h : Here} {x : Graph} (H : Held h x) (few : h.sets ≡ sets_
 
   -- ---- the lowest unexpanded set
 
-  module _ {r : ℕ} (L : LowestIn x.buf m.sets.cells h.start x.nodes h.sets r) where
-    below : (v : ℕ) → In v (nodes_at (links_of x) h.position) → (set_at (view m).sets v).state ≡ UNEXPANDED → (r ≤ v) × (v < h.sets)
-    below v i e =
-        let (n, from, low, is) = here_of H i in
-        let q = (unexpanded_iff m (in_set x.buf n) (set-low H few n low)).0 (subst (λ u. (set_at (view m).sets u).state ≡ UNEXPANDED) (sym is) e) in
-        let a = L.least n from low q in
-        let b = H.core.in_sets n low in
-        (omega arith, omega arith)
+  -- an unexpanded set of a node here is that of a node from `start` on with the mark 1
+  marked_of : (v : ℕ) → In v (nodes_at (links_of x) h.position) → (set_at (view m).sets v).state ≡ UNEXPANDED
+      → (n : ℕ) × (h.start ≤ n) × (n < x.nodes) × (in_set x.buf n ≡ v) × (get_or m.sets.cells (in_set x.buf n * 128) 0 ≡ 1)
+  marked_of v i e =
+      let (n, from, low, is) = here_of H i in
+      (n, from, low, is, (unexpanded_iff m (in_set x.buf n) (set-low H few n low)).0 (subst (λ u. (set_at (view m).sets u).state ≡ UNEXPANDED) (sym is) e))
 
-    pub none-waits : r ≡ h.sets → (v : ℕ) → In v (nodes_at (links_of x) h.position) → (set_at (view m).sets v).state ≢ UNEXPANDED
-    none-waits z v i e = let (a, b) = below v i e in omega arith
+  pub none-waits : LowestIn x.buf m.sets.cells h.start x.nodes None → (v : ℕ) → In v (nodes_at (links_of x) h.position) → (set_at (view m).sets v).state ≢ UNEXPANDED
+  none-waits L v i e = let (n, from, low, is, mark) = marked_of v i e in L n from low mark
 
-    pub waits : r ≢ h.sets → Lowest (view m) h.position (links_of x) r
-    waits d =
-        let (n, from, low, is, mark) = L.hit (omega (arith, L.low)) in record {
-          here = subst (λ u. In u (nodes_at (links_of x) h.position)) is (here_in H n low from);
-          unexpanded = subst (λ u. (set_at (view m).sets u).state ≡ UNEXPANDED) is ((unexpanded_iff m (in_set x.buf n) (set-low H few n low)).1 mark);
-          least = λ v l i e. let (a, b) = below v i e in omega arith;
-        }
-
--- ---- the walks over the nodes
-
-module _ (b cells : List ℕ) where
-  -- no mark k so far
-  pub unmarked-next : (lo m k v : ℕ) → (Marked b cells lo m k → ⊥) → v ≡ in_set b m → get_or cells (v * 128) 0 ≢ k → Marked b cells lo (m + 1) k → ⊥
-  unmarked-next lo m k v f e d w = elim (ℕ_discrete w.m m) [
-    | yes z ↦ d (ap (λ u. get_or cells (u * 128) 0) (e ∙ ap (in_set b) (sym z)) ∙ w.mark)
-    | no z ↦ f (record { m = w.m; from = w.from; low = let l = w.low in omega arith; mark = w.mark })
-  ]
-
-  pub marked-at : (lo hi m k v : ℕ) → lo ≤ m → m < hi → v ≡ in_set b m → get_or cells (v * 128) 0 ≡ k → Marked b cells lo hi k
-  marked-at lo hi m k v g l e q = record { m = m; from = g; low = l; mark = ap (λ u. get_or cells (u * 128) 0) (sym e) ∙ q }
-
-  pub unmarked-end : (lo m hi k : ℕ) → hi ≤ m → (Marked b cells lo m k → ⊥) → Marked b cells lo hi k → ⊥
-  unmarked-end lo m hi k l f w = f (record { m = w.m; from = w.from; low = let q = w.low in omega arith; mark = w.mark })
-
-  -- node m's set u, as it was read, with its mark
-  module _ (m best u : ℕ) (is : u ≡ in_set b m) where
-    pub lower-not : get_or cells (u * 128) 0 ≢ 1 → Lower b cells m best best
-    lower-not d = record { low = omega arith; hit = λ l. absurd (omega arith); least = λ e. absurd (d (ap (λ u. get_or cells (u * 128) 0) is ∙ e)) }
-
-    pub lower-yes : get_or cells (u * 128) 0 ≡ 1 → u < best → Lower b cells m best u
-    lower-yes e l = record { low = omega arith; hit = λ _. (sym is, ap (λ u. get_or cells (u * 128) 0) (sym is) ∙ e); least = λ _. omega arith }
-
-    pub lower_high : best ≤ u → Lower b cells m best best
-    lower_high l = record { low = omega arith; hit = λ l. absurd (omega arith); least = λ e. omega arith }
-
-  pub lowest_start : (lo sets : ℕ) → LowestIn b cells lo lo sets sets
-  lowest_start lo sets = record { low = omega arith; hit = λ l. absurd (omega arith); least = λ m u v. absurd (omega arith) }
-
-  pub lowest-next : (lo m sets best r : ℕ) → lo ≤ m → LowestIn b cells lo m sets best → Lower b cells m best r → LowestIn b cells lo (m + 1) sets r
-  lowest-next lo m sets best r g L w = record {
-    low = omega (arith, L.low, w.low);
-    hit = λ l. elim (dec_lt r best) [
-      | yes q ↦ let (is, mark) = w.hit q in (m, g, omega arith, is, mark)
-      | no q ↦ let e : best ≡ r = omega (arith, w.low) in let (n, from, low, is, mark) = L.hit (omega arith) in (n, from, omega arith, is ∙ e, mark)
-    ];
-    least = λ n u v e. elim (ℕ_discrete n m) [
-      | yes z ↦ (let q = w.least (ap (λ n. get_or cells (in_set b n * 128) 0) (sym z) ∙ e) in let k = ap (in_set b) z in omega arith)
-      | no z ↦ (let q = L.least n u (omega arith) e in omega (arith, w.low))
-    ];
-  }
-
-  pub lowest-end : (lo m hi sets r : ℕ) → m ≡ hi → LowestIn b cells lo m sets r → LowestIn b cells lo hi sets r
-  lowest-end lo m hi sets r e L = subst (λ m. LowestIn b cells lo m sets r) e L
+  pub waits : {r : ℕ} → LowestAt x.buf m.sets.cells h.start x.nodes r → Lowest (view m) h.position (links_of x) r
+  waits L =
+      let (n, from, low, is, mark) = L.hit in record {
+        here = subst (λ u. In u (nodes_at (links_of x) h.position)) is (here_in H n low from);
+        unexpanded = subst (λ u. (set_at (view m).sets u).state ≡ UNEXPANDED) is ((unexpanded_iff m (in_set x.buf n) (set-low H few n low)).1 mark);
+        least = λ v l i e. let (k, g, o, q, a) = marked_of v i e in let b = L.least k g o a in omega arith;
+      }

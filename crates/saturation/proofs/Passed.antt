@@ -4,8 +4,7 @@ use mathlib.Core.Path.{◌≡◌, refl, sym, ◌∙◌, ap, ap₂, subst}
 use mathlib.Core.Logic.{◌≢◌, ⊎_elim}
 use mathlib.Core.List.Memᴰ
 use mathlib.Core.List.{List, ◌∷◌, Memᴰ as In}
-use Prim.Native.Nat.{ℕ, suc, ◌+◌, ◌-◌, ◌≤◌, ◌<◌}
-use native.Mathlib.Decide.{ℕ_discrete}
+use Prim.Native.Nat.{ℕ, suc, ◌+◌, ◌≤◌, ◌<◌}
 use native.Mathlib.Omega.{arith}
 use lib.ListN.{length}
 use Rattle.laws.specs.Lists.Distinct.{one_more}
@@ -148,10 +147,3 @@ pass_last {m} F {h} {x} {y} {z} few H fresh D E o e = record {
   };
   more = λ q. absurd (q o);
 }
-
--- a pass that is not even has brought a link: less is left of the pool
-pub pass_less : {t : Table} {h : Here} {y z : Graph} {W : Graph → Link → Type 0} → Works t h W y z → (Even y z → ⊥) → h.size - z.links < h.size - y.links
-pass_less {y = y} {z = z} D d = elim (ℕ_discrete z.links y.links) [
-  | yes e ↦ absurd (d (let n = D.grown.same_nodes e in omega arith))
-  | no e ↦ omega (arith, D.grown.links, D.held.core.fits)
-]

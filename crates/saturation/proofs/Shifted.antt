@@ -4,7 +4,6 @@ use mathlib.Core.Logic.{inl, inr, ⊎_elim}
 use mathlib.Core.List.Memᴰ
 use mathlib.Core.List.{List, ◌∷◌, Memᴰ as In}
 use Prim.Native.Nat.{ℕ, suc, ◌+◌, ◌≤◌, ◌<◌}
-use native.Mathlib.Decide.{dec_lt}
 use native.Mathlib.Numerals.{add-one}
 use native.Mathlib.Omega.{arith}
 use lib.ListN.{length}
@@ -16,7 +15,7 @@ use Rattle.theory.proofs.Counting.{no_longer}
 use Rattle.table.specs.Layout.{Mem, sets_in, cell, view}
 use Rattle.table.specs.Laid.{Formed}
 use Rattle.links.specs.declared.Here.{Here}
-use Rattle.links.specs.Records.{position, in_set, Graph, links_of}
+use Rattle.links.specs.Records.{in_set, Graph, links_of}
 use Rattle.links.specs.Held.{Held}
 use Rattle.links.proofs.Listed.{count, distinct, in_grown}
 use Rattle.saturation.specs.Wanted.{ToSpan}
@@ -24,39 +23,6 @@ use Rattle.saturation.specs.Moves.{Does}
 use Rattle.saturation.specs.Ends.{next, Shifts}
 use Rattle.saturation.proofs.Nodes.{here_in, here_of, set-low}
 use Rattle.saturation.proofs.Table.{goto-of, cell-of}
-
--- the graph from the next position's point of view, where no node stands yet
-pub next-held : {h : Here} {x : Graph} → Held h x → h.position < 255 → Held (next h x.nodes) x
-next-held {h} {x} H g = record {
-  core = record {
-    room = H.core.room;
-    few = H.core.few;
-    wide = H.core.wide;
-    few_sets = H.core.few_sets;
-    low = omega arith;
-    fits = H.core.fits;
-    some = H.core.some;
-    node_room = H.core.node_room;
-    begun = omega arith;
-    source_in = H.core.source_in;
-    under_in = H.core.under_in;
-    chain = H.core.chain;
-    lasts = H.core.lasts;
-    once = H.core.once;
-    root_position = H.core.root_position;
-    root_set = H.core.root_set;
-    here = λ n u v. absurd (omega arith);
-    before = λ n u v. low n u;
-    found = λ n u v. absurd (omega arith);
-    in_sets = H.core.in_sets;
-    unique = H.core.unique;
-  };
-  few_nodes = H.few_nodes;
-  owned = H.owned;
-}
-  where
-    low : (n : ℕ) → n < x.nodes → position x.buf n < h.position + 1
-    low n u = elim (dec_lt n h.start) [ yes q ↦ (let r = H.core.before n u q in omega arith) | no q ↦ (let r = H.core.here n u (omega arith) in omega arith) ]
 
 module _ {m : Mem} (F : Formed m) {h : Here} {x y : Graph} (H : Held h x) (few : h.sets ≡ sets_in m.rules) (fresh : x.over ≡ 0) (a : ℕ) (one : 1 ≤ a) (lt : a < 128)
     (D : Does (next h x.nodes) (ToSpan x.buf m.sets.cells (h.position + 1) a h.start x.nodes) x y) where

@@ -22,7 +22,7 @@ use Rattle.levels.specs.Lists.{listed}
 use Rattle.levels.specs.Reached.{Down, Reached}
 use Rattle.levels.specs.Reached.Down.{stay, on}
 use Rattle.saturation.proofs.Nodes.{set-low}
-use Rattle.saturation.specs.Wanted.{ToNode, ToList, NextRule, AtRule, AtNode, AtAll}
+use Rattle.saturation.specs.Wanted.{ToNode, ToList, FirstRule, AtRule, AtNode, AtAll}
 use Rattle.saturation.specs.Moves.{Does, Within, Works}
 use Rattle.saturation.proofs.Table.{goto-of, reduces-of, rule-low, left_in, left_is, length-is}
 use Rattle.saturation.proofs.Does.{does-keeps, to-node-by}
@@ -151,47 +151,44 @@ clash p q = omega arith
 works_nothing : {t : Table} {h : Here} {x : Graph} {W : Graph → Link → Type 0} → Held h x → ((l : Link) → W x l → ⊥) → Works t h W x x
 works_nothing {x = x} H f = record { held = H; grown = grown_refl x; there = λ o e l w. absurd (f l w); keeps = λ ls g. g }
 
--- a bit of node n's set u, as the node's set in a later graph
-pub bit_now : {t : Table} {h : Here} {x y : Graph} {W : Graph → Link → Type 0} (ws : List ℕ) (n u r : ℕ) → u ≡ in_set x.buf n → n < x.nodes → Works t h W x y
-    → has ws (u * 18) (1024 + r) ≡ 1 → has ws (in_set y.buf n * 18) (1024 + r) ≡ 1
-bit_now ws n u r is i D e = ap (λ s. has ws (s * 18) (1024 + r)) (D.grown.set_same n i ∙ sym is) ∙ e
+-- a reduction of node n, of set u, that the set has not
+no-rule : {m : Mem} {p n u : ℕ} {x y : Graph} {c : ℕ} {l : Link} → u ≡ in_set x.buf n → n < x.nodes → Grown x y → (w : AtNode m p n c y l)
+    → has m.sets.words (u * 18) (1024 + w.r) ≡ 0 → ⊥
+no-rule {m} is i g w z = clash z (ap (λ s. bit_of m.sets s (1024 + w.r)) (is ∙ sym (g.set_same _ i)) ∙ w.red)
 
 module _ {m : Mem} {h : Here} {x : Graph} where
   -- ---- at a node of set u: the reductions below r
 
   module _ (n u : ℕ) (is : u ≡ in_set x.buf n) where
-    pub node-start : (r : ℕ) → Held h x → NextRule m.sets.words u 0 r → Works (view m) h (AtNode m h.position n r) x x
-    node-start r H b = works_nothing H (λ l w. clash (b.none w.r (omega arith) w.low) (ap (λ u. bit_of m.sets u (1024 + w.r)) is ∙ w.red))
-
-    pub node-next : {y z : Graph} (r r' : ℕ) → n < x.nodes → Works (view m) h (AtNode m h.position n r) x y → Works (view m) h (AtRule m h.position n r) y z
-        → NextRule m.sets.words u (r + 1) r' → Works (view m) h (AtNode m h.position n r') x z
-    node-next {y} {z} r r' i D E b = works_next D E split
+    pub node-next : {y z : Graph} (from r : ℕ) → n < x.nodes → Works (view m) h (AtNode m h.position n from) x y → Works (view m) h (AtRule m h.position n r) y z
+        → FirstRule m.sets.words u from r → Works (view m) h (AtNode m h.position n (r + 1)) x z
+    node-next {y} {z} from r i D E b = works_next D E split
       where
         i' : n < y.nodes
         i' = omega (arith, D.grown.nodes)
 
-        split : Even y z → (l : Link) → AtNode m h.position n r' z l → AtNode m h.position n r y l ⊎ AtRule m h.position n r z l
+        split : Even y z → (l : Link) → AtNode m h.position n (r + 1) z l → AtNode m h.position n from y l ⊎ AtRule m h.position n r z l
         split k l w = elim (ℕ_discrete w.r r) [
           | yes q ↦ inr (subst (λ r. AtRule m h.position n r z l) q w.by)
-          | no q ↦ elim (dec_lt w.r r) [
+          | no q ↦ elim (dec_lt w.r from) [
             | yes j ↦ inl (node-old D.held.core E.grown k i' (record { r = w.r; low = j; inside = w.inside; red = w.red; by = w.by }))
-            | no j ↦ absurd (clash (b.none w.r (omega arith) w.low)
-                (ap (λ s. bit_of m.sets s (1024 + w.r)) (is ∙ sym (E.grown.set_same n i' ∙ D.grown.set_same n i)) ∙ w.red))
+            | no j ↦ absurd (no-rule is i (grown_trans D.grown E.grown) w (b.none w.r (omega arith) (let a = w.low in omega arith)))
           ]
         ]
 
-  pub node_end : {y : Graph} (n r : ℕ) → 128 ≤ r → Works (view m) h (AtNode m h.position n r) x y → Works (view m) h (AtNode m h.position n 128) x y
-  node_end n r l D = record {
-    held = D.held;
-    grown = D.grown;
-    there = λ o e k w. D.there o e k (record { r = w.r; low = let q = w.low in omega arith; inside = w.inside; red = w.red; by = w.by });
-    keeps = D.keeps;
-  }
+    pub node_end : {y : Graph} (from : ℕ) → n < x.nodes → ((j : ℕ) → from ≤ j → j < 128 → has m.sets.words (u * 18) (1024 + j) ≡ 0)
+        → Works (view m) h (AtNode m h.position n from) x y → Works (view m) h (AtNode m h.position n 128) x y
+    node_end from i b D = record {
+      held = D.held;
+      grown = D.grown;
+      there = λ o e k w. D.there o e k (elim (dec_lt w.r from) [
+        | yes j ↦ record { r = w.r; low = j; inside = w.inside; red = w.red; by = w.by }
+        | no j ↦ absurd (no-rule is i D.grown w (b w.r (omega arith) w.low))
+      ]);
+      keeps = D.keeps;
+    }
 
   -- ---- at the nodes of the position below n
-
-  pub all_start : Held h x → Works (view m) h (AtAll m h.position h.start h.start) x x
-  all_start H = works_nothing H (λ l w. let a = w.low in let b = w.from in omega arith)
 
   pub all-next : {y z : Graph} (n : ℕ) → n < y.nodes → Works (view m) h (AtAll m h.position h.start n) x y → Works (view m) h (AtNode m h.position n 128) y z
       → Works (view m) h (AtAll m h.position h.start (n + 1)) x z

@@ -1,5 +1,5 @@
 -- What the public functions promise, in the order-free terms of theory's Steps. Assumes nothing.
-use Rattle.std.specs.Prelude.{◌≡◌, ◌≢◌, ℕ, ◌+◌, ◌*◌, ◌≤◌, ◌<◌, T, length, get_or}
+use Rattle.std.specs.Prelude.{◌≡◌, ◌≢◌, ℕ, ◌+◌, ◌*◌, ◌≤◌, ◌<◌, T, length, get_or, Option, Some, None}
 use mathlib.Core.List.{List, Memᴰ as In}
 use Rattle.theory.specs.Table.{UNEXPANDED, Table, set_at}
 use Rattle.theory.specs.Parse.{Link, nodes_at}
@@ -42,10 +42,6 @@ Waiting t p ls None = (v : ℕ) → In v (nodes_at ls p) → (set_at t.sets v).s
 
 -- ---- the same over the numbers, of the nodes from lo, below hi
 
--- the sets of the nodes below hi are in the pool
-abbrev pub SetsIn : List ℕ → ℕ → ℕ → Type 0
-SetsIn b hi sets = (m : ℕ) → m < hi → in_set b m < sets
-
 -- one of them has the mark k
 pub record Marked (b cells : List ℕ) (lo hi k : ℕ) : Type 0 where
   pub m : ℕ
@@ -53,14 +49,12 @@ pub record Marked (b cells : List ℕ) (lo hi k : ℕ) : Type 0 where
   pub low : m < hi
   pub mark : get_or cells (in_set b m * 128) 0 ≡ k
 
--- r is the lowest of their sets with the mark 1, or `most` where none is lower
-pub record LowestIn (b cells : List ℕ) (lo hi most r : ℕ) : Type 0 where
-  pub low : r ≤ most
-  pub hit : r < most → (m : ℕ) × (lo ≤ m) × (m < hi) × (in_set b m ≡ r) × (get_or cells (in_set b m * 128) 0 ≡ 1)
+-- r is the lowest of their sets with the mark 1
+pub record LowestAt (b cells : List ℕ) (lo hi r : ℕ) : Type 0 where
+  pub hit : (m : ℕ) × (lo ≤ m) × (m < hi) × (in_set b m ≡ r) × (get_or cells (in_set b m * 128) 0 ≡ 1)
   pub least : (m : ℕ) → lo ≤ m → m < hi → get_or cells (in_set b m * 128) 0 ≡ 1 → r ≤ in_set b m
 
--- the lower of `best` and node m's set, where that has the mark 1
-pub record Lower (b cells : List ℕ) (m best r : ℕ) : Type 0 where
-  pub low : r ≤ best
-  pub hit : r < best → (in_set b m ≡ r) × (get_or cells (in_set b m * 128) 0 ≡ 1)
-  pub least : get_or cells (in_set b m * 128) 0 ≡ 1 → r ≤ in_set b m
+-- or none of them has it
+abbrev pub LowestIn : (b cells : List ℕ) (lo hi : ℕ) → Option ℕ → Type 0
+LowestIn b cells lo hi (Some r) = LowestAt b cells lo hi r
+LowestIn b cells lo hi None = (m : ℕ) → lo ≤ m → m < hi → get_or cells (in_set b m * 128) 0 ≢ 1

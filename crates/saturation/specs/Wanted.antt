@@ -1,5 +1,5 @@
 -- The links that a step is to bring, over the numbers of the buffer and of the table. Assumes nothing.
-use Rattle.std.specs.Prelude.{◌≡◌, ◌≢◌, List, ℕ, ◌+◌, ◌*◌, ◌≤◌, ◌<◌, get_or}
+use Rattle.std.specs.Prelude.{◌≡◌, ◌≢◌, List, ℕ, ◌+◌, ◌*◌, ◌≤◌, ◌<◌, get_or, Option, Some, None}
 use Rattle.kernels.specs.Kernel.{has}
 use Rattle.theory.specs.Parse.{Link, link}
 use Rattle.table.specs.Layout.{Mem, rule_number, bit_of}
@@ -31,12 +31,17 @@ pub record ToSpan (b cells : List ℕ) (p x lo hi : ℕ) (l : Link) : Type 0 whe
   pub low : m < hi
   pub to : ToNode b cells p x m l
 
--- r is the least reduction of set u from `from` on, 128 where there is none
-pub record NextRule (ws : List ℕ) (u from r : ℕ) : Type 0 where
+-- r is the least reduction of set u from `from` on
+pub record FirstRule (ws : List ℕ) (u from r : ℕ) : Type 0 where
   pub low : from ≤ r
-  pub most : r ≤ 128
+  pub most : r < 128
   pub none : (j : ℕ) → from ≤ j → j < r → has ws (u * 18) (1024 + j) ≡ 0
-  pub hit : r < 128 → has ws (u * 18) (1024 + r) ≡ 1
+  pub hit : has ws (u * 18) (1024 + r) ≡ 1
+
+-- or there is none
+abbrev pub NextRule : List ℕ → (u from : ℕ) → Option ℕ → Type 0
+NextRule ws u from (Some r) = FirstRule ws u from r
+NextRule ws u from None = (j : ℕ) → from ≤ j → j < 128 → has ws (u * 18) (1024 + j) ≡ 0
 
 -- by the reduction r at node n, "each path of k links from it"
 pub record ByRule (m : Mem) (b : List ℕ) (links p n r : ℕ) (l : Link) : Type 0 where

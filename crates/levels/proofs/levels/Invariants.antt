@@ -1,12 +1,7 @@
--- `levels::levels` meets its contract. The invariant: the list has the ends of the paths of i links. Assumes nothing.
-use mathlib.Core.Path.{◌≡◌}
-use Prim.Native.Nat.{◌≤◌, ◌-◌}
-use lib.ListN.{length}
+-- `levels::levels` meets its contract. The invariant: the list has the ends of the paths of so many links. Assumes nothing.
+use Prim.Native.Nat.{◌≤◌}
 use Rattle.levels.specs.Reached.{Reached}
 use Rattle.levels.proofs.levels.Given as goal
 
-abbrev pub invariant-loop-i : goal.invariant-loop-i
-invariant-loop-i l = (l.i ≤ l.k) × (l.l.side ≤ 1) × (length l.work ≡ length l.initial.work) × Reached l.buf l.links l.nodes l.n l.i l.work l.l.side l.l.count
-
-abbrev pub decreases-loop-i : goal.decreases-loop-i
-decreases-loop-i l = l.k - l.i
+abbrev pub invariant-loop : goal.invariant-loop
+invariant-loop l = (l.level.side ≤ 1) × Reached l.links.buf.now l.links.counts.links l.links.counts.nodes l.n l.counter l.work l.level.side l.level.count

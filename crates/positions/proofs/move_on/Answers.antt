@@ -1,19 +1,14 @@
 -- `positions::move_on` meets its contract. Assumes nothing.
+use mathlib.Core.Path.{refl}
 use native.Mathlib.Omega.{arith}
-use Rattle.positions.proofs.Ends.{came_on, came_to-end, ends-over, ends_stuck, advances}
+use Rattle.positions.proofs.Ends.{ends-over, ends_stuck, advances}
 use Rattle.positions.proofs.move_on.Goals as goal
 
-pub shift-d-requires : goal.shift-d-requires
-shift-d-requires c = record { held = (c.requires.stands.held, (c.requires.stands.in_pool, c.requires.position_bound.0)); formed = (c.requires.stands.formed, c.requires.stands.sets); le_x = c.requires.position_bound.1 }
+pub returns-then-links-ne0-clause-moves : goal.returns-then-links-ne0-clause-moves
+returns-then-links-ne0-clause-moves c = λ m x S. rw c.from.ensures (ends-over S c.shift.ensures.shifts c.if-links-ne0.true)
 
-pub returns-then-d-ne0 : goal.returns-then-d-ne0
-returns-then-d-ne0 c =
-    λ m x S. came_to-end (ends-over S c.shift-d.ensures c.if-d-ne0.true)
+pub returns-then-links-had-clause-moves : goal.returns-then-links-had-clause-moves
+returns-then-links-had-clause-moves c = λ m x S. ends_stuck S c.shift.ensures.shifts (omega arith) c.if-links-had.true
 
-pub returns-then-d-c : goal.returns-then-d-c
-returns-then-d-c c =
-    λ m x S. came_to-end (ends_stuck S c.shift-d.ensures (omega arith) c.if-d-c.true)
-
-pub returns : goal.returns
-returns c =
-    λ m x S. came_on (advances S c.shift-d.ensures (omega arith) c.if-d-c.false)
+pub returns-clause-moves : goal.returns-clause-moves
+returns-clause-moves c = λ m x S. rw c.shift.ensures.here (refl, advances S c.shift.ensures.shifts (omega arith) c.if-links-had.false)

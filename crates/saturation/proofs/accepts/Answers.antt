@@ -1,13 +1,23 @@
 -- `saturation::accepts` meets its contract. The mark 3 is the accept mark. Assumes nothing.
+use mathlib.Core.Bool.{true, false}
+use mathlib.Core.Path.{◌∙◌, ap, sym}
+use Prim.Native.Nat.{◌*◌}
 use native.Mathlib.Omega.{arith}
+use lib.ListN.{get_or}
 use Rattle.table.specs.Layout.{mem}
-use Rattle.saturation.proofs.Table.{cells_in}
 use Rattle.saturation.proofs.Marks.{accepting}
 use Rattle.saturation.proofs.accepts.Goals as goal
 
-pub has_mark-requires : goal.has_mark-requires
-has_mark-requires c = record { hi_in_bounds = (omega (arith, c.requires.standing.1.core.node_room, c.requires.standing.1.core.room), (c.requires.standing.1.core.few_sets, (cells_in _ c.requires.formed.0 c.requires.formed.1).0)); lo_le_hi = (c.requires.standing.1.core.begun, c.requires.standing.1.core.in_sets) }
+pub returns-then-cells-u-eq-ACCEPTING : goal.returns-then-cells-u-eq-ACCEPTING
+returns-then-cells-u-eq-ACCEPTING c =
+    accepting (mem c.args.rules.now c.args.cells.now c.args.words.now) c.requires.standing.1 c.requires.formed.1 true (record {
+      m = c.loop-m.m;
+      from = omega arith;
+      low = c.loop-m-test.true;
+      mark = ap (λ u. get_or c.args.cells.now (u * 128) 0) (sym c.set_of-u.ensures) ∙ c.if-cells-u-eq-ACCEPTING.true;
+    })
 
 pub returns : goal.returns
 returns c =
-    accepting (mem c.args.rules.now c.args.cells.now c.args.words.now) c.requires.standing.1 c.requires.formed.1 c.has_mark.result c.has_mark.ensures
+    accepting (mem c.args.rules.now c.args.cells.now c.args.words.now) c.requires.standing.1 c.requires.formed.1 false
+    (λ w. c.loop-m.invariant (record { m = w.m; from = w.from; low = let q = w.low in omega arith; mark = w.mark }))

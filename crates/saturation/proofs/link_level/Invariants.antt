@@ -1,14 +1,10 @@
 -- `saturation::link_level` meets its contract. The invariant: the first i nodes of the level are linked. Assumes nothing.
-use mathlib.Core.Path.{◌≡◌}
-use Prim.Native.Nat.{◌≤◌, ◌-◌}
-use lib.ListN.{length}
-use Rattle.links.specs.Records.{graph}
+use Rattle.links.specs.Lent.{graph_of, SamePlace}
 use Rattle.saturation.specs.Wanted.{ToList}
 use Rattle.saturation.specs.Moves.{Does}
 use Rattle.saturation.proofs.link_level.Given as goal
 
 abbrev pub invariant-loop-i : goal.invariant-loop-i
-invariant-loop-i l = ((l.i ≤ l.count) × (l.count ≤ 4097)) × (length l.buf ≡ length l.initial.buf) × (length l.at ≡ length l.initial.at) × Does l.here (ToList l.initial.buf l.cells l.work l.side l.here.position l.x l.i) (graph l.initial.buf l.initial.at l.initial.d) (graph l.buf l.at l.d)
-
-abbrev pub decreases-loop-i : goal.decreases-loop-i
-decreases-loop-i l = l.count - l.i
+invariant-loop-i l =
+    SamePlace l.initial.links l.links
+    × Does l.initial.links.here (ToList l.initial.links.buf.now l.cells l.work l.level.side l.initial.links.here.position l.x l.i) (graph_of l.initial.links) (graph_of l.links)

@@ -1,8 +1,0 @@
--- `links::begin` meets its contract. The root alone. Assumes nothing.
-use mathlib.Core.Path.{refl}
-use Rattle.links.proofs.Root.{root_held}
-use Rattle.links.proofs.begin.Goals as goal
-
-pub returns : goal.returns
-returns c =
-    (refl, root_held c.args.buf.now c.args.at.now _ _ c.requires.size_in_bounds.0 c.requires.size_in_bounds.1.0 c.requires.size_in_bounds.1.1 c.requires.le_sets.0 c.requires.le_sets.1 c.put_node.ensures c.put.ensures)
