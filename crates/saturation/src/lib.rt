@@ -25,7 +25,6 @@ ghost use Rattle.saturation.specs.Wanted.{Targets, ToNode, ToList, ToSpan, NextR
 ghost use Rattle.saturation.specs.Moves.{Does, Works};
 ghost use Rattle.saturation.specs.Ends.{Saturates, Shifts, Standing, Accepting, Waiting, LowestIn, next};
 
-use kernels::Found;
 use levels::Level;
 use links::{Here, Links};
 
@@ -82,16 +81,9 @@ fn next_reduction(words: &[u64], u: usize, from: usize) -> Option<usize>
     requires { (u ≤ 255) × ((from ≤ 128) × (u * 18 + 18 ≤ length words.now)) }
     ensures { NextRule words.now u from result }
 {
-    let f = kernels::next(
-        words,
-        u * kernels::SET_WORDS,
-        kernels::SET_WORDS,
-        kernels::ITEMS + from,
-    );
-    match f {
-        Found::At(i) => Some(i - kernels::ITEMS),
-        Found::Nothing => None,
-    }
+    let at = u * kernels::SET_WORDS;
+    let bit = kernels::next(words, at, kernels::SET_WORDS, kernels::ITEMS + from)?;
+    Some(bit - kernels::ITEMS)
 }
 
 // The reductions at node n.
@@ -217,13 +209,10 @@ fn lowest(links: &Links, cells: &[u8]) -> Option<usize>
 }
 
 // The lowest-numbered unexpanded set of a node here, found by a look at the nodes here and at no other set.
-pub fn first_waiting(links: &Links, rules: &[u8], cells: &[u8], words: &[u64]) -> Found
+pub fn first_waiting(links: &Links, rules: &[u8], cells: &[u8], words: &[u64]) -> Option<usize>
     requires standing { Standing links.now.here links.now.buf.now links.now.counts }
     requires formed { Formed (mem rules.now cells.now words.now) × (links.now.here.sets ≡ sets_in rules.now) }
     ensures { Waiting (view (mem rules.now cells.now words.now)) links.now.here.position (links_in links.now.buf.now links.now.counts.links) result }
 {
-    match lowest(links, cells) {
-        Some(u) => Found::At(u),
-        None => Found::Nothing,
-    }
+    lowest(links, cells)
 }
