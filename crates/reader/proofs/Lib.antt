@@ -6,3 +6,4 @@ pub mod Running
 pub mod Rest
 pub mod Cut
 pub mod Turns
+pub mod Reading
