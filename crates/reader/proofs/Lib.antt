@@ -1,5 +1,4 @@
 -- The laws, in the order in which they build on each other.
-pub mod Inside
 pub mod Newlines
 pub mod Waiting
 pub mod Running

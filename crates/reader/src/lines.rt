@@ -29,7 +29,8 @@ pub fn run_lines(rt: &HostRuntime, text: &[u8], desk: &mut Desk, out: &mut Outpu
         out.old.bytes out.old.used out.new.bytes out.new.used }
 {
     let n = text.len();
-    let mut at: usize = 0;
+    let mut at = 0;
+    // `text::newline` says where each line ends, so `at` goes on by uneven steps: no `for` is plainer
     let mut end = newline(text, at, n);
     while end < n {
         run_line(rt, &text[at..end + 1], desk, out);
