@@ -8,9 +8,9 @@ use lib.Seq.{take_all, take-nil, take-take, take-add}
 use Rattle.text.specs.Newline.{index_of, slice}
 use Rattle.text.specs.Text.{NEWLINE}
 use Rattle.desk.specs.Obeys.{State, Answers}
-use Rattle.desk.specs.Script.{Unbroken, Ran, Last}
+use Rattle.desk.specs.Script.{SameSizes, Unbroken, Ran, Last}
 use Rattle.desk.specs.Script.Ran.{rest, line}
-use Rattle.desk.specs.Script.Last.{nothing}
+use Rattle.desk.specs.Script.Last.{nothing, unended}
 use Rattle.desk.proofs.Scripts.{ran_then, unbroken_nil}
 use Rattle.reader.specs.Lines.{RanLine, RanText, RanLines}
 use Rattle.reader.proofs.Newlines.{First, first}
@@ -86,3 +86,9 @@ module _ (text : List ℕ) (n at : ℕ) {end : ℕ} (fits : n ≤ length text) (
 -- no bytes are no last line
 pub last_none : (d : State) (n : ℕ) (text : List ℕ) → n ≡ 0 → Last d (take n text) d []
 last_none d n text e = subst (λ k. Last d (take k text) d []) (sym e) nothing
+
+-- and some are one
+pub last_some : {d e : State} {answer : List ℕ} (text : List ℕ) → 0 < length text → Answers text d e answer → SameSizes d e
+    → Last d (take (length text) text) e answer
+last_some {d} {e} {answer} text some a same =
+    subst (λ t. Last d t e answer) (sym (take_all (length text) text (omega arith))) (unended (λ n. omega (arith, ap length n)) a same)

@@ -1,23 +1,20 @@
 -- A script's pieces, one after the other, are the script: what a turn adds to what was run so far. Assumes nothing.
-use mathlib.Core.Bool.{true, false}
 use mathlib.Core.Path.{◌≡◌, refl, sym, ◌∙◌, subst}
-use mathlib.Core.Logic.{◌⊎◌, inl, inr, ⊎_elim}
+use mathlib.Core.Logic.{◌⊎◌, inl, inr, ⊎_elim, ◌≢◌}
 use mathlib.Core.List.{List, [], ◌++◌}
-use Prim.Native.Nat.{ℕ, ◌+◌, ◌≤◌}
+use Prim.Native.Nat.{ℕ, zero, suc, ◌+◌, ◌≤◌}
 use native.Mathlib.Omega.{arith}
-use lib.Dec.{T}
 use lib.ListN.{length, take, drop, length-take, length-drop, length-append}
-use lib.Seq.{take-add}
+use lib.Seq.{take-add, take_all}
+use Rattle.std.specs.Prelude.{Result, Ok, Err}
 use Rattle.desk.specs.Obeys.{State}
 use Rattle.desk.specs.Script.{Unbroken, Ran, Last}
 use Rattle.desk.specs.Script.Ran.{rest, line}
 use Rattle.desk.proofs.Scripts.{ran_then, unbroken_nil}
-use Rattle.reader.specs.declared.input.Got.{Got}
-use Rattle.reader.specs.declared.input.Got.TheVariants.{Bytes, End, Failed}
 use Rattle.reader.specs.declared.pieces.Standing.{Standing}
 use Rattle.reader.specs.declared.pieces.Standing.TheVariants.{More, Whole, Unread, Unwritten}
 use Rattle.reader.specs.Lines.{RanLines, KeptRest}
-use Rattle.reader.specs.Pieces.{Brought, Fed, RanPiece, RanEnd, RanNothing, Turned, RanWhole, RanPart, NO_END, Ends, is_more}
+use Rattle.reader.specs.Pieces.{Brought, Filled, Fed, Turned, RanWhole, RanPart, NO_END, Ends}
 use Rattle.reader.proofs.Rest.{kept-is}
 use Rattle.reader.proofs.Cut.{behind-cut, last-cut}
 
@@ -62,79 +59,65 @@ module _ {d e f : State} {held : List ℕ} (b : Begun d e held) where
 
 -- ---- the loop
 
--- with `turns` turns left: what is run so far, with a byte at least for each turn that was taken; or how it ended
+-- after so many turns: what is run so far, with a byte at least for each of them; or how it ended
 abbrev pub SoFar : (turns : ℕ) → Standing → (d e : State) (held : List ℕ) → Type 0
-SoFar turns More d e held = (b : Begun d e held) × (NO_END ≤ turns + length b.part.text)
+SoFar turns More d e held = (b : Begun d e held) × (turns ≤ length b.part.text)
 SoFar turns Whole d e held = Ends Whole d e
 SoFar turns Unread d e held = Ends Unread d e
 SoFar turns Unwritten d e held = Ends Unwritten d e
 
--- a turn takes one of them, whatever the reading brought behind the bytes that were held
-pub turn : {turns : ℕ} {d e : State} (before text : List ℕ) (held : ℕ) (got : Got) (now : ℕ) (f : State) (after : List ℕ) (now_held : ℕ) (r : Standing)
-    → turns ≡ now + 1 → take held text ≡ take held before → Brought text held got → SoFar turns More d e (take held before)
-    → Turned got text held e f after now_held r → SoFar now r d f (take now_held after)
-turn {turns} {d} {e} before text held got now f after now_held r t kept brought (b, n) p = by got brought p
+-- before the first turn nothing is held
+pub none_yet : (d : State) (text : List ℕ) (held : ℕ) → held ≡ 0 → SoFar 0 More d d (take held text)
+none_yet d text held e = subst (λ n. SoFar 0 More d d (take n text)) (sym e) (begin d, omega arith)
+
+-- one turn more, whatever the reading brought behind the bytes that were held
+pub turn : {E : Type 0} {turns : ℕ} {d e : State} {before text : List ℕ} {held n : ℕ} {got : Result ℕ E}
+    → (f : State) (after : List ℕ) (now_held : ℕ) (r : Standing) → Filled before held text got → n ≡ held → SoFar turns More d e (take held before) → Turned got text n e f after now_held r
+    → SoFar (turns + 1) r d f (take now_held after)
+turn {E} {turns} {d} {e} {before} {text} {held} {n} {got} f after now_held r filled same (b, few) p =
+    by got filled.brought (subst (λ n. Turned got text n e f after now_held r) same p)
   where
     stands : Standing → Type 0
-    stands s = SoFar now s d f (take now_held after)
+    stands s = SoFar (turns + 1) s d f (take now_held after)
 
     begun : Begun d e (take held text)
-    begun = record { part = b.part; cut = kept ∙ b.cut }
+    begun = record { part = b.part; cut = filled.kept ∙ b.cut }
 
-    by : (got : Got) → Brought text held got → Turned got text held e f after now_held r → stands r
-    by (Bytes k) (some, room) p =
-        let (c, size) = feed begun p.fed in
-        let piece : length (take k (drop held text)) ≡ k = omega (arith, length-take k (drop held text), length-drop held text) in
-        ⊎_elim (λ s. subst stands (sym s) (c, omega arith)) (λ s. subst stands (sym s) (inr c.part)) p.standing
-    by End _ p =
+    by : (got : Result ℕ E) → Brought text held got → Turned got text held e f after now_held r → stands r
+    by (Ok zero) room p =
         let whole = finish begun p.printed p.last in
         ⊎_elim (λ s. subst stands (sym s) whole) (λ s. subst stands (sym s) (inl whole)) p.standing
-    by Failed _ p = subst stands (sym p.standing) (subst (λ s. RanPart d s) (sym p.same_state) b.part)
-
-pub few-held : (got : Got) (text : List ℕ) (held : ℕ) (d e : State) (after : List ℕ) (now_held : ℕ) (r : Standing) → held ≤ 1283
-    → Turned got text held d e after now_held r → now_held ≤ 1283
-few-held (Bytes n) text held d e after now_held r h p = p.few
-few-held End text held d e after now_held r h p = omega (arith, p.none_held)
-few-held Failed text held d e after now_held r h p = omega (arith, p.same_held)
+    by (Ok (suc k)) room p =
+        let (c, size) = feed begun p.fed in
+        let piece : length (take (suc k) (drop held text)) ≡ suc k = omega (arith, length-take (suc k) (drop held text), length-drop held text) in
+        ⊎_elim (λ s. subst stands (sym s) (c, omega arith)) (λ s. subst stands (sym s) (inr c.part)) p.standing
+    by (Err error) room p = subst stands (sym p.standing) (subst (λ s. RanPart d s) (sym p.same_state) b.part)
 
 -- a script that goes on
-pub goes_on : (r : Standing) (turns : ℕ) (d e : State) (held : List ℕ) → is_more r ≡ true → SoFar turns r d e held → SoFar turns More d e held
-goes_on More turns d e held m p = p
-goes_on Whole turns d e held m p = absurd (subst T (sym m) tt)
-goes_on Unread turns d e held m p = absurd (subst T (sym m) tt)
-goes_on Unwritten turns d e held m p = absurd (subst T (sym m) tt)
+pub goes_on : {turns : ℕ} {d e : State} {held : List ℕ} {r : Standing} → r ≡ More → SoFar turns r d e held → SoFar turns More d e held
+goes_on {turns} {d} {e} {held} m p = subst (λ s. SoFar turns s d e held) m p
 
--- no turns are left, or the script does not go on
-pub ends : (r : Standing) (turns : ℕ) (d e : State) (held : List ℕ) → (turns ≡ 0) ⊎ (is_more r ≡ false) → SoFar turns r d e held → Ends r d e
-ends More turns d e held (inl z) (b, n) = (b.part, omega arith)
-ends More turns d e held (inr f) p = absurd (subst T f tt)
-ends Whole turns d e held o p = p
-ends Unread turns d e held o p = p
-ends Unwritten turns d e held o p = p
+-- the turns are used up, or the script does not go on
+pub ends : {turns : ℕ} (d e : State) (held : List ℕ) (r : Standing) → (NO_END ≤ turns) ⊎ (r ≢ More) → SoFar turns r d e held → Ends r d e
+ends d e held More (inl z) (b, n) = (b.part, omega arith)
+ends d e held More (inr f) p = absurd (f refl)
+ends d e held Whole o p = p
+ends d e held Unread o p = p
+ends d e held Unwritten o p = p
 
 -- ---- a piece
 
 pub fed : (held n : ℕ) {text after before out : List ℕ} {at r used past : ℕ} {d e : State} → held + n ≤ length text
-    → RanLines text (held + n) d e at before used out past → KeptRest text at (held + n) after r
+    → RanLines (take (held + n) text) (length (take (held + n) text)) d e at before used out past → KeptRest text at (held + n) after r
     → Fed (take held text) (take n (drop held text)) d e (take r after)
 fed held n {text} {at = at} {d = d} {e} fits l k =
-    let left = drop at (take (held + n) text) in
+    let whole = take (held + n) text in
+    let left = drop at whole in
     let printed = l.ran.printed in
+    let all : take (length whole) whole ≡ whole = take_all (length whole) whole (omega arith) in
     record {
       printed = printed;
       left = left;
-      ran = subst (λ t. Ran d t e printed left) (take-add held n text) l.ran.ran;
-      cut = kept-is k l.within fits;
+      ran = subst (λ t. Ran d t e printed left) (take-add held n text) (subst (λ t. Ran d t e printed (drop at t)) all l.ran.ran);
+      cut = kept-is k (omega (arith, l.within, length-take (held + n) text)) fits;
     }
-
--- ---- what a turn does, once it is known what the reading brought
-
-module _ {got : Got} {held : ℕ} {d e : State} {now_held : ℕ} {r : Standing} where
-  pub with_bytes : {n : ℕ} {text after : List ℕ} → got ≡ Bytes n → RanPiece text held n d e after now_held r → Turned got text held d e after now_held r
-  with_bytes {text = text} {after} g p = subst (λ g. Turned g text held d e after now_held r) (sym g) p
-
-  pub with_end : {text : List ℕ} (after : List ℕ) → got ≡ End → RanEnd text held d e now_held r → Turned got text held d e after now_held r
-  with_end {text} after g p = subst (λ g. Turned g text held d e after now_held r) (sym g) p
-
-  pub with_failure : (text after : List ℕ) → got ≡ Failed → RanNothing held d e now_held r → Turned got text held d e after now_held r
-  with_failure text after g p = subst (λ g. Turned g text held d e after now_held r) (sym g) p

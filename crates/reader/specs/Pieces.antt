@@ -1,12 +1,8 @@
 -- A script that comes in pieces: what a reading brings, what a turn does with it, and what the whole of it does. Assumes nothing.
-use Rattle.std.specs.Prelude.{Bool, true, false, ◌≡◌, ◌⊎◌, List, ◌++◌, ℕ, ◌+◌, ◌≤◌, ◌<◌, length, take, drop}
+use Rattle.std.specs.Prelude.{◌≡◌, ◌⊎◌, zero, suc, Result, Ok, Err, List, ◌++◌, ℕ, ◌+◌, ◌≤◌, ◌<◌, length, take, drop}
 use Rattle.table.specs.Layout.{Mem}
 use Rattle.desk.specs.Obeys.{State, state}
 use Rattle.desk.specs.Script.{Ran, Last, Script, blank}
-use Rattle.reader.specs.declared.input.Got.{Got}
-use Rattle.reader.specs.declared.input.Got.TheVariants.{Bytes, End, Failed}
-use Rattle.reader.specs.declared.input.Tried.{Tried}
-use Rattle.reader.specs.declared.input.Tried.TheVariants.{Bytes as TriedBytes, End as TriedEnd, Failed as TriedFailed, Again}
 use Rattle.reader.specs.declared.pieces.Standing.{Standing}
 use Rattle.reader.specs.declared.pieces.Standing.TheVariants.{More, Whole, Unread, Unwritten}
 
@@ -16,53 +12,17 @@ use Rattle.reader.specs.declared.pieces.Standing.TheVariants.{More, Whole, Unrea
 abbrev pub Behind : (text : List ℕ) (held n : ℕ) → Type 0
 Behind text held n = (0 < n) × (held + n ≤ length text)
 
-abbrev pub Brought : (text : List ℕ) (held : ℕ) → Got → Type 0
-Brought text held (Bytes n) = Behind text held n
-Brought text held End = Unit {0}
-Brought text held Failed = Unit {0}
+-- n bytes were read, or none at the end; or the reading failed
+abbrev pub Brought : {E : Type 0} → (text : List ℕ) (held : ℕ) → Result ℕ E → Type 0
+Brought text held (Ok n) = held + n ≤ length text
+Brought text held (Err error) = Unit {0}
 
 -- the bytes held are as they were, and of what was read `Read::read` says how much it is
-pub record Filled (before : List ℕ) (held : ℕ) (after : List ℕ) (r : Got) : Type 0 where
+pub record Filled {E : Type 0} (before : List ℕ) (held : ℕ) (after : List ℕ) (r : Result ℕ E) : Type 0 where
   pub kept : take held after ≡ take held before
   pub brought : Brought after held r
 
-abbrev pub asks_again : Tried → Bool
-asks_again (TriedBytes n) = false
-asks_again TriedEnd = false
-asks_again TriedFailed = false
-asks_again Again = true
-
-abbrev pub BroughtOnce : (text : List ℕ) (held : ℕ) → Tried → Type 0
-BroughtOnce text held (TriedBytes n) = Behind text held n
-BroughtOnce text held TriedEnd = Unit {0}
-BroughtOnce text held TriedFailed = Unit {0}
-BroughtOnce text held Again = Unit {0}
-
--- the same of one try
-pub record Tries (before : List ℕ) (held : ℕ) (after : List ℕ) (r : Tried) : Type 0 where
-  pub kept : take held after ≡ take held before
-  pub brought : BroughtOnce after held r
-
 -- ---- a turn
-
-abbrev pub is_more : Standing → Bool
-is_more More = true
-is_more Whole = false
-is_more Unread = false
-is_more Unwritten = false
-
-abbrev pub is_whole : Standing → Bool
-is_whole More = false
-is_whole Whole = true
-is_whole Unread = false
-is_whole Unwritten = false
-
--- how scripts stand of which one could not be read
-abbrev pub at_best_unread : Standing → Standing
-at_best_unread More = Unread
-at_best_unread Whole = Unread
-at_best_unread Unread = Unread
-at_best_unread Unwritten = Unwritten
 
 -- a script stands so, unless what it printed could not be written
 abbrev pub Unless : Standing → Standing → Type 0
@@ -95,10 +55,10 @@ pub record RanNothing (held : ℕ) (d e : State) (now_held : ℕ) (r : Standing)
   pub standing : r ≡ Unread
 
 -- what a turn does, by what the reading brought
-abbrev pub Turned : Got → (text : List ℕ) (held : ℕ) (d e : State) (after : List ℕ) (now_held : ℕ) → Standing → Type 0
-Turned (Bytes n) text held d e after now_held r = RanPiece text held n d e after now_held r
-Turned End text held d e after now_held r = RanEnd text held d e now_held r
-Turned Failed text held d e after now_held r = RanNothing held d e now_held r
+abbrev pub Turned : {E : Type 0} → Result ℕ E → (text : List ℕ) (held : ℕ) (d e : State) (after : List ℕ) (now_held : ℕ) → Standing → Type 0
+Turned (Ok zero) text held d e after now_held r = RanEnd text held d e now_held r
+Turned (Ok (suc n)) text held d e after now_held r = RanPiece text held (suc n) d e after now_held r
+Turned (Err error) text held d e after now_held r = RanNothing held d e now_held r
 
 -- ---- the whole of it: the script is the bytes that were read, one piece after the other, however they came
 

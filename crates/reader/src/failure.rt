@@ -28,12 +28,8 @@ fn words_of(error: Error, words: &mut [u8; 256]) -> usize
 fn before_number(words: &[u8]) -> usize
     ensures { result ≤ length words.now }
 {
-    let mut i: usize = 0;
-    while i + 1 < words.len() {
-        if words[i] == b' ' && words[i + 1] == b'(' {
-            return i;
-        }
-        i += 1;
-    }
-    words.len()
+    words
+        .windows(2)
+        .position(|pair| pair == b" (".as_slice())
+        .unwrap_or(words.len())
 }

@@ -1,87 +1,57 @@
-// Bytes read from a script, its end told from a failure.
-ghost use Rattle.std.specs.Prelude.{◌<◌, length, ◌≡◌};
-ghost use Rattle.reader.specs.Pieces.{Filled, Tries, asks_again};
+// Bytes read from a script, behind those that are held.
+ghost use Rattle.std.specs.Prelude.{◌≡◌, ◌+◌, ◌≤◌, ◌<◌, length};
+ghost use Rattle.reader.specs.Lines.{KeptRest};
+ghost use Rattle.reader.specs.Pieces.{Filled};
 
 use crate::again::may_try_again;
-use crate::failure::say;
-use std::io::Read;
+use crate::lines::LONGEST;
+use std::io::{Read, Result};
 
-// What a reading brought: bytes, one at least; the end of the script; or a failure, which is said on standard error.
-#[derive(Clone, Copy)]
-pub enum Got {
-    Bytes(usize),
-    End,
-    Failed,
+// How many bytes are held at most, those that are read at a time among them.
+pub const TEXT: usize = 65536;
+
+// The text that was read and is not run yet: the first `len` bytes, the beginning of a line.
+#[derive(Drop)]
+pub struct Held {
+    pub bytes: [u8; TEXT],
+    pub len: usize,
+    ghost few: { len ≤ 1283 },
 }
 
-// What one try brought: as above, or it is worth another.
-#[derive(Clone, Copy)]
-pub enum Tried {
-    Bytes(usize),
-    End,
-    Failed,
-    Again,
-}
-
-impl Tried {
-    fn is_again(self) -> bool
-        ensures { result ≡ asks_again self }
+impl Held {
+    pub fn new() -> Held
+        ensures { result.len ≡ 0 }
     {
-        match self {
-            Tried::Again => true,
-            Tried::Bytes(_) => false,
-            Tried::End => false,
-            Tried::Failed => false,
+        Held {
+            bytes: [0; TEXT],
+            len: 0,
         }
     }
-}
 
-// Reads on, behind the bytes that are held, which stay as they are. There is room for more, so that nothing read is the end.
-pub fn fill<R: Read>(
-    rt: &HostRuntime,
-    input: &mut R,
-    name: &[u8],
-    text: &mut [u8],
-    held: usize,
-) -> Got
-    requires { held < length text.old }
-    ensures { Filled text.old held text.new result }
-{
-    let mut tried = try_once(rt, input, name, text, held);
-    // a proved loop has to end, and nothing says that a descriptor ever has bytes: it counts its turns down from a number that no
-    // run uses up
-    let mut turns = u64::MAX;
-    while turns > 0 && tried.is_again() {
-        tried = try_once(rt, input, name, text, held);
-        turns -= 1;
-    }
-    match tried {
-        Tried::Bytes(n) => Got::Bytes(n),
-        Tried::End => Got::End,
-        _ => Got::Failed,
-    }
-}
-
-// Reads once. A failure that is not worth another try is said.
-fn try_once<R: Read>(
-    rt: &HostRuntime,
-    input: &mut R,
-    name: &[u8],
-    text: &mut [u8],
-    held: usize,
-) -> Tried
-    requires { held < length text.old }
-    ensures { Tries text.old held text.new result }
-{
-    match input.read(&mut text[held..]) {
-        Ok(0) => Tried::End,
-        Ok(n) => Tried::Bytes(n),
-        Err(error) => {
-            if may_try_again(error) {
-                return Tried::Again;
+    // Reads on, behind the bytes that are held, which stay as they are. There is room for more, so that nothing read is the end.
+    pub fn fill<R: Read>(&mut self, input: &mut R) -> Result<usize>
+        ensures filled { Filled self.old.bytes self.old.len self.new.bytes result }
+        ensures same_len { self.new.len ≡ self.old.len }
+    {
+        let held = self.len;
+        // a proved loop has to end, and nothing says that a descriptor ever has bytes: no run uses up so many tries
+        for _ in 1..u64::MAX {
+            let tried = input.read(&mut self.bytes[held..]);
+            match tried {
+                Err(error) if may_try_again(error) => {}
+                _ => return tried,
             }
-            say(rt, name, error);
-            Tried::Failed
         }
+        input.read(&mut self.bytes[held..])
+    }
+
+    // Moves what stands from `at` up to `end` to the front, as much of it as a line's meaning needs, and holds that.
+    pub fn keep_rest(&mut self, at: usize, end: usize)
+        requires { (at ≤ end) × (end ≤ 65536) }
+        ensures { KeptRest self.old.bytes at end self.new.bytes self.new.len }
+    {
+        let n = (end - at).min(LONGEST + 1);
+        self.bytes.copy_within(at..at + n, 0);
+        self.len = n;
     }
 }

@@ -14,25 +14,19 @@
 #![tactic(auto)]
 
 mod again; // again.rt: whether what failed is worth another try
+mod arguments; // arguments.rt: the arguments, and the files that they name
 mod failure; // failure.rt: what failed, said
-mod input; // input.rt: bytes read, the end told from a failure
+mod input; // input.rt: bytes read, behind those that are held
 mod lines; // lines.rt: a text's lines run at the desk
 mod output; // output.rt: what waits to be written out
 mod pieces; // pieces.rt: a script run piece by piece
+mod status; // status.rt: the word that says how all went
 
+use arguments::{WORD, arg_count, name_too_long, open};
 use failure::say;
 use pieces::Standing;
-use std::env::{Env, FillError};
-use std::fs::File;
-use std::io::{Error, Result, Write};
-
-// The longest argument that is taken: no path is longer.
-const WORD: usize = 4096;
-
-// Linux's numbers for a name that is too long, and for bytes that are no text.
-const ENAMETOOLONG: i32 = 36;
-
-const EILSEQ: i32 = 84;
+use status::{has_status, say_done};
+use std::env::Env;
 
 // Runs the scripts that the arguments name; after `--status`, says in the file named there if all went well.
 fn main(rt: HostRuntime) {
@@ -41,80 +35,8 @@ fn main(rt: HostRuntime) {
         run_all(&rt, 1, n);
         return;
     }
-    let standing = run_all(&rt, 3, n);
-    if standing.is_whole() {
+    if run_all(&rt, 3, n) == Standing::Whole {
         say_done(&rt);
-    }
-}
-
-// How many arguments there are, the program's name among them.
-fn arg_count(rt: &HostRuntime) -> usize {
-    let mut word = [0u8; WORD];
-    for i in 0..usize::MAX {
-        if let Err(FillError::NotPresent) = rt.arg(i, &mut word) {
-            return i;
-        }
-    }
-    usize::MAX
-}
-
-// Whether the arguments begin with `--status FILE`.
-fn has_status(rt: &HostRuntime, n: usize) -> bool {
-    if n < 3 {
-        return false;
-    }
-    let mut word = [0u8; WORD];
-    match rt.arg(1, &mut word) {
-        Ok(k) => is_status(&word[..k]),
-        Err(_) => false,
-    }
-}
-
-fn is_status(word: &[u8]) -> bool {
-    let status = b"--status";
-    if word.len() != 8 {
-        return false;
-    }
-    let mut i: usize = 0;
-    while i < 8 {
-        if word[i] != status[i] {
-            return false;
-        }
-        i += 1;
-    }
-    true
-}
-
-// Says that all went well.
-fn say_done(rt: &HostRuntime) {
-    tell(rt, b"done\n");
-}
-
-// Says that nobody reads what is printed: by the word `unread` in the file after `--status`, so that `./skydoublet` can keep silent of
-// it where its caller wants that, else on standard error.
-fn say_unread(rt: &HostRuntime, error: Error) {
-    if has_status(rt, arg_count(rt)) {
-        tell(rt, b"unread\n");
-    } else {
-        say(rt, b"standard output", error);
-    }
-}
-
-// Writes the word into the file that argument 2 names. What fails here leaves the file without it.
-fn tell(rt: &HostRuntime, word: &[u8]) {
-    let mut path = [0u8; WORD];
-    match rt.arg(2, &mut path) {
-        Ok(n) => write_word(rt, &path[..n], word),
-        Err(_) => say(rt, b"--status", Error::from_raw_os_error(ENAMETOOLONG)),
-    }
-}
-
-fn write_word(rt: &HostRuntime, path: &[u8], word: &[u8]) {
-    match overwrite(rt, path) {
-        Ok(mut file) => {
-            let _ = file.write_all(word);
-        }
-        Err(error) => say(rt, path, error),
     }
 }
 
@@ -125,23 +47,13 @@ fn run_all(rt: &HostRuntime, first: usize, n: usize) -> Standing {
         return run_standard(rt);
     }
     let mut standing = Standing::Whole;
-    let mut i = first;
-    while i < n {
-        standing = run_next(rt, i, standing);
-        i += 1;
-    }
-    standing
-}
-
-fn run_next(rt: &HostRuntime, i: usize, before: Standing) -> Standing {
-    match before {
-        Standing::Unwritten => Standing::Unwritten,
-        Standing::Whole => run_named(rt, i),
-        _ => {
-            let standing = run_named(rt, i);
-            standing.at_best_unread()
+    for i in first..n {
+        standing = standing.max(run_named(rt, i));
+        if standing == Standing::Unwritten {
+            return standing;
         }
     }
+    standing
 }
 
 // Runs the script in the file that argument i names.
@@ -150,18 +62,14 @@ fn run_named(rt: &HostRuntime, i: usize) -> Standing {
     match rt.arg(i, &mut path) {
         Ok(n) => run_path(rt, &path[..n]),
         Err(_) => {
-            say(
-                rt,
-                b"the name of a script",
-                Error::from_raw_os_error(ENAMETOOLONG),
-            );
+            say(rt, b"the name of a script", name_too_long());
             Standing::Unread
         }
     }
 }
 
 fn run_path(rt: &HostRuntime, path: &[u8]) -> Standing {
-    if path.len() == 1 && path[0] == b'-' {
+    if path == b"-".as_slice() {
         return run_standard(rt);
     }
     match open(rt, path) {
@@ -176,22 +84,4 @@ fn run_path(rt: &HostRuntime, path: &[u8]) -> Standing {
 fn run_standard(rt: &HostRuntime) -> Standing {
     let mut input = rt.stdin();
     pieces::run(rt, &mut input, b"standard input")
-}
-
-// Opens the file for reading.
-fn open(rt: &HostRuntime, path: &[u8]) -> Result<File> {
-    File::open(rt, text_of(path)?)
-}
-
-// Opens the file for writing, empty.
-fn overwrite(rt: &HostRuntime, path: &[u8]) -> Result<File> {
-    File::create(rt, text_of(path)?)
-}
-
-// The library takes a path that is text, and no other.
-fn text_of(path: &[u8]) -> Result<&str> {
-    match str::from_utf8(path) {
-        Ok(text) => Ok(text),
-        Err(_) => Err(Error::from_raw_os_error(EILSEQ)),
-    }
 }

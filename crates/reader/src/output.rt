@@ -2,111 +2,84 @@
 //
 // The buffer has room for the longest text of a line behind 65,536 bytes that wait, so a line's text always is in one piece. After a
 // write that failed nothing more is written: what follows a gap would read as if it were whole.
-ghost use Rattle.std.specs.Prelude.{false, ◌≡◌, ◌≤◌, ◌<◌, length};
+ghost use Rattle.std.specs.Prelude.{false, ◌≡◌, ◌≤◌, length};
 ghost use Rattle.reader.specs.Output.{Ready};
 
 use crate::again::may_try_again;
 use crate::failure::say;
+use crate::status::say_unread;
 use replies::ROOM;
-use std::io::{Error, ErrorKind, Write};
+use std::io::{Error, ErrorKind, Result, Write};
 
-pub const OUTPUT: usize = ROOM + 65536;
+const OUTPUT: usize = ROOM + 65536;
 
-// Zeros for the buffer.
-pub fn output() -> [u8; OUTPUT]
-    ensures { 1122304 ≡ length result }
-{
-    [0; OUTPUT]
-}
-
-// Where the next line's text may be put, and whether all that went before it was written or still waits.
-#[derive(Clone, Copy)]
-pub struct Place {
-    pub start: usize,
+// The first `used` bytes wait, unless a write failed: all that came before them is written.
+#[derive(Drop)]
+pub struct Output {
+    pub bytes: [u8; OUTPUT],
+    pub used: usize,
     pub is_written: bool,
+    ghost size: { length bytes ≡ 1122304 },
+    ghost inside: { used ≤ 1122304 },
 }
 
-// The place behind what waits, if there is room, and else the front, once what waits is written out.
-pub fn ready(rt: &HostRuntime, out: &[u8], used: usize, is_written: bool) -> Place
-    requires { (1056768 ≤ length out.now) × (used ≤ length out.now) }
-    ensures { Ready (length out.now) used result.start }
-{
-    if used <= out.len() - ROOM {
-        return Place {
-            start: used,
-            is_written,
-        };
-    }
-    let is_flushed = flush(rt, out, used, is_written);
-    Place {
-        start: 0,
-        is_written: is_flushed,
-    }
-}
-
-// How far the first bytes of the output are written, and whether the last write was good.
-#[derive(Clone, Copy)]
-pub struct Written {
-    pub at: usize,
-    pub is_good: bool,
-}
-
-// Writes out the first bytes of the output, unless an earlier write failed, and answers whether all is written.
-pub fn flush(rt: &HostRuntime, out: &[u8], used: usize, is_written: bool) -> bool
-    requires { used ≤ length out.now }
-    ensures { is_written ≡ false → result ≡ false }
-{
-    let mut written = Written {
-        at: 0,
-        is_good: is_written,
-    };
-    // as in `fill`, a number of turns that no run uses up
-    let mut turns = u64::MAX;
-    while turns > 0 && written.is_good && written.at < used {
-        let at = written.at;
-        written = write_on(rt, out, at, used);
-        turns -= 1;
-    }
-    written.is_all(used)
-}
-
-impl Written {
-    fn is_all(self, used: usize) -> bool
-        ensures { self.is_good ≡ false → result ≡ false }
-    {
-        if self.is_good {
-            return self.at == used;
+impl Output {
+    pub fn new() -> Output {
+        Output {
+            bytes: [0; OUTPUT],
+            used: 0,
+            is_written: true,
         }
-        false
+    }
+
+    // The place for the next line's text: behind what waits, if there is room, and else the front, once what waits is written out.
+    pub fn ready(&mut self, rt: &HostRuntime) -> usize
+        ensures place { Ready 1122304 self.old.used result }
+        ensures same_bytes { self.new.bytes ≡ self.old.bytes }
+    {
+        if self.used <= OUTPUT - ROOM {
+            return self.used;
+        }
+        self.flush(rt);
+        0
+    }
+
+    // Writes out what waits, unless an earlier write failed. A failure is said on standard error.
+    pub fn flush(&mut self, rt: &HostRuntime)
+        ensures same_bytes { self.new.bytes ≡ self.old.bytes }
+        ensures none_waits { self.new.used ≡ 0 }
+        ensures failed { self.old.is_written ≡ false → self.new.is_written ≡ false }
+    {
+        if self.is_written {
+            if let Err(error) = write_out(rt, &self.bytes[..self.used]) {
+                self.is_written = false;
+                say_unwritten(rt, error);
+            }
+        }
+        self.used = 0;
     }
 }
 
-// One write of what stands from `at` up to `used`.
-fn write_on(rt: &HostRuntime, out: &[u8], at: usize, used: usize) -> Written
-    requires { (at < used) × (used ≤ length out.now) }
-    ensures { result.at ≤ used }
-{
-    let part = &out[at..used];
-    match rt.stdout().write(part) {
-        Ok(n) => Written {
-            at: at + n,
-            is_good: true,
-        },
-        Err(error) => Written {
-            at,
-            is_good: is_well(rt, error),
-        },
+// Writes all of the text to standard output.
+fn write_out(rt: &HostRuntime, text: &[u8]) -> Result<()> {
+    let mut rest = text;
+    // as in `fill`, more tries than any run uses up
+    for _ in 0..u64::MAX {
+        if rest.is_empty() {
+            return Ok(());
+        }
+        match rt.stdout().write(rest) {
+            Ok(n) => rest = &rest[n..],
+            Err(error) if may_try_again(error) => {}
+            Err(error) => return Err(error),
+        }
     }
+    Err(Error::from(ErrorKind::WriteZero))
 }
 
-// Whether to go on after a write that failed. If not, it is said on standard error.
-fn is_well(rt: &HostRuntime, error: Error) -> bool {
-    if may_try_again(error) {
-        return true;
-    }
+fn say_unwritten(rt: &HostRuntime, error: Error) {
     match error.kind() {
-        ErrorKind::BrokenPipe => crate::say_unread(rt, error),
+        ErrorKind::BrokenPipe => say_unread(rt, error),
         _ => say(rt, b"standard output", error),
     }
-    false
 }

@@ -4,5 +4,4 @@ use Rattle.reader.proofs.pieces.run.Goals as goal
 
 pub returns : goal.returns
 unfolding blank
-returns g c =
-    (_, c.run_script.ensures.1)
+returns g c = (_, c.run_script.ensures.1)

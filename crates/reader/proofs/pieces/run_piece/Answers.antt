@@ -1,16 +1,12 @@
 -- `run_piece` meets its contract. Assumes nothing.
-use native.Mathlib.Omega.{arith}
+use Rattle.std.proofs.Common.{arith}
 use Rattle.reader.proofs.Turns.{fed}
 use Rattle.reader.proofs.pieces.run_piece.Goals as goal
-
-pub keep_rest-requires : goal.keep_rest-requires
-keep_rest-requires c =
-    (c.run_lines-ran.ensures.within, omega (arith, c.requires))
 
 pub returns : goal.returns
 returns c =
     record {
       few = c.keep_rest.ensures.few;
-      fed = fed c.args.held c.args.n c.requires.0.1 c.run_lines-ran.ensures c.keep_rest.ensures;
-      standing = c.if_written.ensures;
+      fed = fed c.args.held.now.len c.args.n (omega (arith, c.requires)) c.run_lines-at.ensures c.keep_rest.ensures;
+      standing = c.standing_once_written.ensures;
     }
