@@ -7,7 +7,7 @@ use Prim.Native.Nat.{ℕ, ◌+◌, ◌*◌, ◌≤◌, ◌<◌}
 use native.Mathlib.Omega.{arith}
 use lib.Dec.{T}
 use lib.ListN.{get_or}
-use Rattle.std.specs.Prelude.{None}
+use Rattle.std.specs.Prelude.{Option, Some, None}
 use Rattle.laws.specs.Choice.{Tells}
 use Rattle.laws.proofs.Tests.{eqb_iff}
 use Rattle.theory.specs.Table.{UNEXPANDED, SetPlace, set_at}
@@ -18,7 +18,7 @@ use Rattle.table.proofs.Read.{set_read, state-unexpanded}
 use Rattle.links.specs.declared.Here.{Here}
 use Rattle.links.specs.Records.{in_set, Graph, links_of}
 use Rattle.links.specs.Held.{Held}
-use Rattle.saturation.specs.Ends.{Accepting, Marked, LowestAt, LowestIn}
+use Rattle.saturation.specs.Ends.{Accepting, Waiting, Marked, LowestAt, LowestIn}
 use Rattle.saturation.proofs.Nodes.{here_in, here_of, set-low}
 
 -- ---- what a mark says
@@ -67,13 +67,17 @@ module _ (m : Mem) {h : Here} {x : Graph} (H : Held h x) (few : h.sets ≡ sets_
       let (n, from, low, is) = here_of H i in
       (n, from, low, is, (unexpanded_iff m (in_set x.buf n) (set-low H few n low)).0 (subst (λ u. (set_at (view m).sets u).state ≡ UNEXPANDED) (sym is) e))
 
-  pub none-waits : LowestIn x.buf m.sets.cells h.start x.nodes None → (v : ℕ) → In v (nodes_at (links_of x) h.position) → (set_at (view m).sets v).state ≢ UNEXPANDED
+  none-waits : LowestIn x.buf m.sets.cells h.start x.nodes None → (v : ℕ) → In v (nodes_at (links_of x) h.position) → (set_at (view m).sets v).state ≢ UNEXPANDED
   none-waits L v i e = let (n, from, low, is, mark) = marked_of v i e in L n from low mark
 
-  pub waits : {r : ℕ} → LowestAt x.buf m.sets.cells h.start x.nodes r → Lowest (view m) h.position (links_of x) r
+  waits : {r : ℕ} → LowestAt x.buf m.sets.cells h.start x.nodes r → Lowest (view m) h.position (links_of x) r
   waits L =
       let (n, from, low, is, mark) = L.hit in record {
         here = subst (λ u. In u (nodes_at (links_of x) h.position)) is (here_in H n low from);
         unexpanded = subst (λ u. (set_at (view m).sets u).state ≡ UNEXPANDED) is ((unexpanded_iff m (in_set x.buf n) (set-low H few n low)).1 mark);
         least = λ v l i e. let (k, g, o, q, a) = marked_of v i e in let b = L.least k g o a in omega arith;
       }
+
+  pub waiting : (r : Option ℕ) → LowestIn x.buf m.sets.cells h.start x.nodes r → Waiting (view m) h.position (links_of x) r
+  waiting (Some r) L = waits L
+  waiting None L = none-waits L
