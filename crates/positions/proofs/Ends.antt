@@ -7,9 +7,12 @@ use Prim.Native.Nat.{ℕ, ◌<◌}
 use native.Mathlib.Numerals.{add-one}
 use native.Mathlib.Omega.{arith}
 use lib.ListN.{length}
-use Rattle.symbols.specs.Answer.{number_of}
-use Rattle.symbols.specs.declared.answer.Answer.{Answer}
-use Rattle.symbols.specs.declared.answer.Answer.TheVariants.{Accept, Reject, NoLinks}
+use Rattle.std.specs.Prelude.{Bool, true, false, Result, Ok, Err}
+use Rattle.laws.specs.Choice.{when, Tells}
+use Rattle.symbols.specs.Answer.{refusal_number}
+use Rattle.symbols.specs.declared.refusal.Refusal.{Refusal}
+use Rattle.symbols.specs.declared.refusal.Refusal.TheVariants.{NoLinks}
+use Rattle.symbols.specs.declared.verdict.Verdict.{Verdict}
 use Rattle.theory.specs.Table.{Table}
 use Rattle.theory.specs.Parse.{outcome}
 use Rattle.theory.specs.Steps.{Shifted}
@@ -23,16 +26,15 @@ use Rattle.links.specs.Records.{Graph, graph, counts, links_of}
 use Rattle.links.proofs.Listed.{count}
 use Rattle.saturation.specs.Ends.{Shifts, Accepting}
 use Rattle.theory.proofs.Shifting.{shifting, not_fewer, none-new}
-use Rattle.positions.specs.declared.Verdict.{Verdict}
-use Rattle.positions.specs.Reading.{Stands, Settles, Refuses, Advances, Holds, Finishes, refusal}
+use Rattle.positions.specs.Reading.{Stands, Settles, Refuses, Advances, Holds, Finishes}
 
-abbrev verdict : Answer → ℕ → Verdict
-verdict a n = record { answer = a; links = n }
+abbrev verdict : Bool → ℕ → Result Verdict Refusal
+verdict b n = Ok (record { accepts = b; links = n })
 
 -- ---- a position that was not settled
 
-pub refuses : {h : Here} {m : Mem} {x : Graph} {n : Mem} {b : List ℕ} (a : Answer) → Refuses h m x n (number_of a)
-    → (w : List ℕ) → Finishes h w m x n b (refusal a)
+pub refuses : {h : Here} {m : Mem} {x : Graph} {n : Mem} {b : List ℕ} (a : Refusal) → Refuses h m x n (refusal_number a)
+    → (w : List ℕ) → Finishes h w m x n b (Err a)
 refuses a r w = record { kept = r.kept; steps = r.steps w; accepted = λ e. absurd (let h = r.refusal in omega arith) }
 
 -- ---- a settled one
@@ -61,20 +63,26 @@ module _ {h : Here} {m : Mem} {x : Graph} {n : Mem} {y : Graph} (S : Settles h m
     ready = S.ready;
   }
 
-  pub ends-accepted : Accepting t p (links_of y) → Finishes h [] m x n y.buf (verdict Accept y.links)
+  ends-accepted : Accepting t p (links_of y) → Finishes h [] m x n y.buf (verdict true y.links)
+  unfolding when
   ends-accepted a = record {
     kept = S.kept;
     steps = reaches-leads (S.reaches []) _ (accepts S.ready a.here a.mark (ap (λ k. outcome 1 k t) size));
     accepted = λ e. holds;
   }
 
-  pub ends_rejected : (Accepting t p (links_of y) → ⊥) → Finishes h [] m x n y.buf (verdict Reject y.links)
+  ends_rejected : (Accepting t p (links_of y) → ⊥) → Finishes h [] m x n y.buf (verdict false y.links)
+  unfolding when
   ends_rejected a = record {
     kept = S.kept;
     steps = reaches-leads (S.reaches []) _
         (rejects S.ready (λ u i b. a (record { set = u; here = i; mark = b })) (ap (λ k. outcome 2 k t) size));
     accepted = λ e. absurd (omega arith);
   }
+
+  pub judged : (b : Bool) → Tells b (Accepting t p (links_of y)) → Finishes h [] m x n y.buf (verdict b y.links)
+  judged true a = ends-accepted a
+  judged false a = ends_rejected a
 
   -- ---- before it
 
@@ -83,7 +91,7 @@ module _ {h : Here} {m : Mem} {x : Graph} {n : Mem} {y : Graph} (S : Settles h m
     grown = count z.buf z.links
 
     -- "More than the pool: NO-LINKS."
-    pub ends-over : z.over ≢ 0 → {b : List ℕ} (w : List ℕ) → Finishes h (k ∷ w) m x n b (refusal NoLinks)
+    pub ends-over : z.over ≢ 0 → {b : List ℕ} (w : List ℕ) → Finishes h (k ∷ w) m x n b (Err NoLinks)
     ends-over e w = record {
       kept = S.kept;
       steps =
@@ -98,7 +106,8 @@ module _ {h : Here} {m : Mem} {x : Graph} {n : Mem} {y : Graph} (S : Settles h m
       shifted = D.whole e
 
       -- "None: reject."
-      pub ends_stuck : z.links ≡ y.links → {b : List ℕ} (w : List ℕ) → Finishes h (k ∷ w) m x n b (verdict Reject y.links)
+      pub ends_stuck : z.links ≡ y.links → {b : List ℕ} (w : List ℕ) → Finishes h (k ∷ w) m x n b (verdict false y.links)
+      unfolding when
       ends_stuck q w = record {
         kept = S.kept;
         steps =

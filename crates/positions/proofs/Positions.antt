@@ -9,7 +9,7 @@ use lib.Dec.{T}
 use lib.ListN.{length, get_or, drop}
 use lib.Seq.{drop-cons, drop-length}
 use Rattle.laws.proofs.Tests.{tests, all-below}
-use Rattle.symbols.specs.Answer.{ACCEPT, number_of}
+use Rattle.symbols.specs.Answer.{ACCEPT, number_of, answer_of_parse, links_with}
 use Rattle.symbols.specs.Symbol.{terminal}
 use Rattle.theory.specs.Table.{Table}
 use Rattle.theory.specs.Parse.{Link}
@@ -25,7 +25,9 @@ use Rattle.links.specs.declared.Here.{Here}
 use Rattle.links.specs.declared.Counts.{Counts}
 use Rattle.links.specs.Records.{Graph, graph, counts, links_in, links_of}
 use Rattle.links.specs.Held.{Held}
-use Rattle.positions.specs.declared.Verdict.{Verdict}
+use Rattle.std.specs.Prelude.{Result}
+use Rattle.symbols.specs.declared.refusal.Refusal.{Refusal}
+use Rattle.symbols.specs.declared.verdict.Verdict.{Verdict}
 use Rattle.positions.specs.Reading.{Stands, Kept, Advances, Holds, Finishes, Reads}
 use Rattle.positions.proofs.Kept.{kept-none, kept_trans}
 
@@ -76,7 +78,7 @@ module _ {size sets : ℕ} {line : List ℕ} {m : Mem} {p start : ℕ} {n : Mem}
   reached : {w : List ℕ} → drop p line ≡ w → Reaches size (view m) 0 [] line (view n) p (links_of y) w
   reached e = subst (Reaches size (view m) 0 [] line (view n) p (links_of y)) e I.reaches
 
-  read_to-end : {w : List ℕ} {n' : Mem} {b : List ℕ} {v : Verdict} → drop p line ≡ w
+  read_to-end : {w : List ℕ} {n' : Mem} {b : List ℕ} {v : Result Verdict Refusal} → drop p line ≡ w
       → Finishes (here p start size sets) w n y n' b v → Reads size line m n' b v
   read_to-end e f = record {
     kept = kept_trans I.kept f.kept;
@@ -95,17 +97,17 @@ module _ {size sets : ℕ} {line : List ℕ} {m : Mem} {p start : ℕ} {n : Mem}
           (reaches-on (reached (drop-cons line p 0 l)) (A.reaches (drop (suc p) line)));
     }
 
-    pub at-end : {n' : Mem} {b : List ℕ} {v : Verdict} → ((w : List ℕ) → Finishes (here p start size sets) (get_or line p 0 ∷ w) n y n' b v)
+    pub at-end : {n' : Mem} {b : List ℕ} {v : Result Verdict Refusal} → ((w : List ℕ) → Finishes (here p start size sets) (get_or line p 0 ∷ w) n y n' b v)
         → Reads size line m n' b v
     at-end F = read_to-end (drop-cons line p 0 l) (F (drop (suc p) line))
 
-  pub at_last : length line ≤ p → {n' : Mem} {b : List ℕ} {v : Verdict} → Finishes (here p start size sets) [] n y n' b v
+  pub at_last : length line ≤ p → {n' : Mem} {b : List ℕ} {v : Result Verdict Refusal} → Finishes (here p start size sets) [] n y n' b v
       → Reads size line m n' b v
   at_last l f = let low = I.low in let e : p ≡ length line = omega arith in read_to-end (ap (λ i. drop i line) e ∙ drop-length line) f
 
 -- on accept the buffer holds exactly the links of the graph of the table left, and all sets of its nodes are expanded
-pub holds-graph : {pool : ℕ} {line : List ℕ} {m n : Mem} {b : List ℕ} {v : Verdict} → Formed m → Reads pool line m n b v
-    → number_of v.answer ≡ ACCEPT → Finished (view n) line (links_in b v.links)
+pub holds-graph : {pool : ℕ} {line : List ℕ} {m n : Mem} {b : List ℕ} {v : Result Verdict Refusal} → Formed m → Reads pool line m n b v
+    → number_of (answer_of_parse v) ≡ ACCEPT → Finished (view n) line (links_in b (links_with v))
 holds-graph {line = line} f r a = let h = r.accepted a in reached_finished line f.form h.reaches h.ready
 
 -- "each 1 to 63"

@@ -24,7 +24,7 @@ use Rattle.links.specs.declared.Here.{Here}
 use Rattle.links.specs.Records.{Graph, links_of}
 use Rattle.links.proofs.Listed.{count}
 use Rattle.saturation.specs.Ends.{Saturates, Waiting}
-use Rattle.kernels.specs.declared.Found.TheVariants.{Nothing}
+use Rattle.std.specs.Prelude.{None}
 use Rattle.expansion.specs.Expansion.{Expandable, Expands}
 use Rattle.expansion.proofs.Promises.{expand-keeps, expand-expanded}
 use Rattle.positions.specs.Reading.{Stands, Kept, Settles, Refuses}
@@ -64,7 +64,7 @@ module _ {h : Here} {m : Mem} {x : Graph} {n : Mem} {y z : Graph} (I : Settling 
     fits : length (links_of z) ≤ h.size
     fits = omega (arith, count z.buf z.links, S.held.core.fits)
 
-    pub settling-ready : Waiting t p (links_of z) Nothing → Settles h m x n z
+    pub settling-ready : Waiting t p (links_of z) None → Settles h m x n z
     settling-ready w = record {
       kept = I.kept;
       stands = record {

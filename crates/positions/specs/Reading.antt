@@ -1,7 +1,8 @@
 -- What the steps of a parse rely on at a position, and what they come to, in terms of theory's Steps. Assumes nothing.
-use Rattle.std.specs.Prelude.{◌≡◌, List, [], ◌∷◌, ℕ, suc, ◌≤◌, Result, Ok, Err}
-use Rattle.symbols.specs.declared.answer.Answer.{Answer}
-use Rattle.symbols.specs.Answer.{ACCEPT, NO_SETS, number_of}
+use Rattle.std.specs.Prelude.{◌≡◌, List, [], ◌∷◌, ℕ, suc, ◌≤◌, Bool, true, false, Result, Ok, Err}
+use Rattle.symbols.specs.Answer.{ACCEPT, NO_SETS, refusal_number, number_of, answer_of_parse, links_with}
+use Rattle.symbols.specs.declared.refusal.Refusal.{Refusal}
+use Rattle.symbols.specs.declared.verdict.Verdict.{Verdict}
 use Rattle.theory.specs.Table.{Table}
 use Rattle.theory.specs.Parse.{Link, outcome}
 use Rattle.theory.specs.Steps.{Ready, Steps}
@@ -18,11 +19,6 @@ use Rattle.links.specs.Records.{numbers_for, Graph, graph, counts, links_in, lin
 use Rattle.links.specs.Held.{Held}
 use Rattle.links.specs.Lent.{graph_of}
 use Rattle.saturation.specs.Ends.{next}
-use Rattle.positions.specs.declared.Verdict.{Verdict}
-
--- the verdict of a refusal
-abbrev pub refusal : Answer → Verdict
-refusal a = record { answer = a; links = 0 }
 
 -- a position at hand: the table's numbers and the graph of links, which is valid for the table
 pub record Stands (h : Here) (m : Mem) (x : Graph) : Type 0 where
@@ -54,9 +50,9 @@ pub record Refuses (h : Here) (m : Mem) (x : Graph) (n : Mem) (a : ℕ) : Type 0
   pub steps : (w : List ℕ) → Steps h.size (view m) h.position (links_of x) w (outcome a 0 (view n))
 
 -- what steps 1 and 2 came to
-abbrev pub SettlesOr : Here → Mem → Graph → Mem → Graph → Result (Unit {0}) Answer → Type 0
+abbrev pub SettlesOr : Here → Mem → Graph → Mem → Graph → Result (Unit {0}) Refusal → Type 0
 SettlesOr h m x n y (Ok _) = Settles h m x n y
-SettlesOr h m x n y (Err a) = Refuses h m x n (number_of a)
+SettlesOr h m x n y (Err r) = Refuses h m x n (refusal_number r)
 
 -- the next position, after the token k; its nodes are those from s on
 pub record Advances (h : Here) (k : ℕ) (m : Mem) (x : Graph) (s : ℕ) (n : Mem) (y : Graph) : Type 0 where
@@ -76,22 +72,23 @@ pub record Holds (pool : ℕ) (t : Table) (p : ℕ) (ls : List Link) (w : List �
   pub ready : Ready pool (view n) last.position from (links_in b l)
 
 -- the end of a parse with the tokens w to come; b is the buffer that it leaves
-pub record Finishes (h : Here) (w : List ℕ) (m : Mem) (x : Graph) (n : Mem) (b : List ℕ) (v : Verdict) : Type 0 where
+pub record Finishes (h : Here) (w : List ℕ) (m : Mem) (x : Graph) (n : Mem) (b : List ℕ) (v : Result Verdict Refusal) : Type 0 where
   pub kept : Kept m n
-  pub steps : Steps h.size (view m) h.position (links_of x) w (outcome (number_of v.answer) v.links (view n))
-  pub accepted : number_of v.answer ≡ ACCEPT → Holds h.size (view m) h.position (links_of x) w n b v.links
+  pub steps : Steps h.size (view m) h.position (links_of x) w (outcome (number_of (answer_of_parse v)) (links_with v) (view n))
+  pub accepted : number_of (answer_of_parse v) ≡ ACCEPT → Holds h.size (view m) h.position (links_of x) w n b (links_with v)
 
--- what the steps of a position before the last came to: y is then at the next one, or the parse has ended
-abbrev pub AdvancesOr : Here → ℕ → Mem → Graph → Mem → Links → Result (Unit {0}) Verdict → Type 0
-AdvancesOr h k m x n y (Ok _) = (y.here ≡ next h y.here.start) × Advances h k m x y.here.start n (graph_of y)
-AdvancesOr h k m x n y (Err v) = (w : List ℕ) → Finishes h (k ∷ w) m x n y.buf.now v
+-- what the steps of a position before the last came to: y is then at the next one, or no node takes the token and the parse has ended
+abbrev pub AdvancesOr : Here → ℕ → Mem → Graph → Mem → Links → Result Bool Refusal → Type 0
+AdvancesOr h k m x n y (Ok true) = (y.here ≡ next h y.here.start) × Advances h k m x y.here.start n (graph_of y)
+AdvancesOr h k m x n y (Ok false) = (w : List ℕ) → Finishes h (k ∷ w) m x n y.buf.now (Ok (record { accepts = false; links = y.counts.links }))
+AdvancesOr h k m x n y (Err r) = (w : List ℕ) → Finishes h (k ∷ w) m x n y.buf.now (Err r)
 
 -- the same two of a settled position, whatever place it was settled from
-abbrev pub MovesOn : Here → ℕ → Mem → Graph → Links → Result (Unit {0}) Verdict → Type 0
+abbrev pub MovesOn : Here → ℕ → Mem → Graph → Links → Result Bool Refusal → Type 0
 MovesOn h k n y z a = (m : Mem) (x : Graph) → Settles h m x n y → AdvancesOr h k m x n z a
 
 abbrev pub Judges : Here → Mem → List ℕ → Counts → Verdict → Type 0
-Judges h n b c v = (m : Mem) (x : Graph) (at : List ℕ) → Settles h m x n (graph b at c) → Finishes h [] m x n b v
+Judges h n b c v = (m : Mem) (x : Graph) (at : List ℕ) → Settles h m x n (graph b at c) → Finishes h [] m x n b (Ok v)
 
 -- what reading a line asks for: a table in form, room for the pool's records, and a line that Parse's checks let pass
 pub record Readable (pool : ℕ) (line : List ℕ) (m : Mem) (room : ℕ) : Type 0 where
@@ -100,7 +97,7 @@ pub record Readable (pool : ℕ) (line : List ℕ) (m : Mem) (room : ℕ) : Type
   pub fits : Fits pool line
 
 -- the whole line
-pub record Reads (pool : ℕ) (line : List ℕ) (m n : Mem) (b : List ℕ) (v : Verdict) : Type 0 where
+pub record Reads (pool : ℕ) (line : List ℕ) (m n : Mem) (b : List ℕ) (v : Result Verdict Refusal) : Type 0 where
   pub kept : Kept m n
-  pub steps : Steps pool (view m) 0 [] line (outcome (number_of v.answer) v.links (view n))
-  pub accepted : number_of v.answer ≡ ACCEPT → Holds pool (view m) 0 [] line n b v.links
+  pub steps : Steps pool (view m) 0 [] line (outcome (number_of (answer_of_parse v)) (links_with v) (view n))
+  pub accepted : number_of (answer_of_parse v) ≡ ACCEPT → Holds pool (view m) 0 [] line n b (links_with v)

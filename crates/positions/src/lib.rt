@@ -16,28 +16,13 @@ ghost use Rattle.links.specs.Records.{counts};
 ghost use Rattle.links.specs.Held.{Held};
 ghost use Rattle.links.specs.Lent.{graph_of, root, SameSlices, SamePlace};
 ghost use Rattle.saturation.specs.Ends.{Standing};
-ghost use Rattle.positions.specs.Reading.{Stands, AdvancesOr, MovesOn, Finishes, Judges, Readable, Reads, refusal};
+ghost use Rattle.positions.specs.Reading.{Stands, AdvancesOr, MovesOn, Finishes, Judges, Readable, Reads};
 
 use links::{Counts, Here, Links};
 use settle::settle;
-use symbols::Answer;
+use symbols::{Refusal, Verdict};
 
 mod settle; // settle.rt: a position settled
-
-// What a parse answers: its answer, and the number of links in the graph at the end, 0 on a refusal.
-#[derive(Clone, Copy)]
-pub struct Verdict {
-    pub answer: Answer,
-    pub links: usize,
-}
-
-impl From<Answer> for Verdict {
-    ghost from_gives = { λ a v. v ≡ refusal a };
-
-    fn from(answer: Answer) -> Verdict {
-        Verdict { answer, links: 0 }
-    }
-}
 
 // Reads the line, position by position. On accept the buffer is left with the graph of the whole line.
 pub fn read(
@@ -49,7 +34,7 @@ pub fn read(
     work: &mut [u16],
     line: &[u8],
     size: usize,
-) -> Verdict
+) -> Result<Verdict, Refusal>
     requires readable { Readable size line.now (mem rules.old cells.old words.old) (length buf.old) }
     requires at_len { (length at.old ≡ 256) × (length work.old ≡ 12291) }
     ensures { Reads size line.now (mem rules.old cells.old words.old)
@@ -80,7 +65,7 @@ fn read_line(
     rules: &mut [u8],
     cells: &mut [u8],
     words: &mut [u64],
-) -> Verdict
+) -> Result<Verdict, Refusal>
     requires readable { Readable links.old.here.size line.now (mem rules.old cells.old words.old) (length links.old.buf.now) }
     requires begun { (links.old.counts ≡ counts 1 0 0) × ((links.old.here ≡ root links.old.here.size (sets_in rules.old)) × Held links.old.here (graph_of links.old)) }
     requires work_len { length work.old ≡ 12291 }
@@ -89,15 +74,17 @@ fn read_line(
         (mem rules.new cells.new words.new) links.new.buf.now result }
 {
     for &token in line {
-        let moved = advance(links, work, token as usize, rules, cells, words);
-        if let Err(end) = moved {
-            return end;
+        if !advance(links, work, usize::from(token), rules, cells, words)? {
+            return Ok(Verdict {
+                accepts: false,
+                links: links.counts.links,
+            });
         }
     }
     finish(links, work, rules, cells, words)
 }
 
-// A position before the last: settles it and moves on. An error is the end of the parse.
+// A position before the last: settles it and moves on. False if no node here takes the token.
 fn advance(
     links: &mut Links,
     work: &mut [u16],
@@ -105,7 +92,7 @@ fn advance(
     rules: &mut [u8],
     cells: &mut [u8],
     words: &mut [u64],
-) -> Result<(), Verdict>
+) -> Result<bool, Refusal>
     requires stands { Stands links.old.here (mem rules.old cells.old words.old) (graph_of links.old) × (length work.old ≡ 12291) }
     requires position_bound { (links.old.here.position < 255) × ((1 ≤ token) × (token < 128)) }
     ensures same_slices { SameSlices links.old links.new }
@@ -123,7 +110,7 @@ fn move_on(
     rules: &[u8],
     cells: &[u8],
     words: &[u64],
-) -> Result<(), Verdict>
+) -> Result<bool, Refusal>
     requires stands { Stands links.old.here (mem rules.now cells.now words.now) (graph_of links.old) }
     requires position_bound { (links.old.here.position < 255) × ((1 ≤ token) × (token < 128)) }
     ensures same_slices { SameSlices links.old links.new }
@@ -133,15 +120,9 @@ fn move_on(
     let had = links.counts.links;
     saturation::shift(links, token, rules, cells, words);
     if links.counts.over != 0 {
-        return Err(Verdict::from(Answer::NoLinks));
+        return Err(Refusal::NoLinks);
     }
-    if links.counts.links == had {
-        return Err(Verdict {
-            answer: Answer::Reject,
-            links: had,
-        });
-    }
-    Ok(())
+    Ok(links.counts.links != had)
 }
 
 // The last position: settles it and judges.
@@ -151,17 +132,15 @@ fn finish(
     rules: &mut [u8],
     cells: &mut [u8],
     words: &mut [u64],
-) -> Verdict
+) -> Result<Verdict, Refusal>
     requires { Stands links.old.here (mem rules.old cells.old words.old) (graph_of links.old) × (length work.old ≡ 12291) }
     ensures same { SamePlace links.old links.new }
     ensures finishes { Finishes links.old.here [] (mem rules.old cells.old words.old)
         (graph_of links.old) (mem rules.new cells.new words.new)
         links.new.buf.now result }
 {
-    match settle(links, work, rules, cells, words) {
-        Ok(()) => judge(links, rules, cells, words),
-        Err(answer) => Verdict::from(answer),
-    }
+    settle(links, work, rules, cells, words)?; // first: an expansion may bring the accept mark
+    Ok(judge(links, rules, cells, words))
 }
 
 // The verdict at a settled position: accept if a node here has the accept mark.
@@ -170,13 +149,8 @@ fn judge(links: &Links, rules: &[u8], cells: &[u8], words: &[u64]) -> Verdict
     requires formed { Formed (mem rules.now cells.now words.now) × (links.now.here.sets ≡ sets_in rules.now) }
     ensures { Judges links.now.here (mem rules.now cells.now words.now) links.now.buf.now links.now.counts result }
 {
-    let answer = if saturation::accepts(links, rules, cells, words) {
-        Answer::Accept
-    } else {
-        Answer::Reject
-    };
     Verdict {
-        answer,
+        accepts: saturation::accepts(links, rules, cells, words),
         links: links.counts.links,
     }
 }

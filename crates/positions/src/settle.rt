@@ -4,19 +4,18 @@ ghost use Rattle.table.specs.Layout.{mem};
 ghost use Rattle.links.specs.Lent.{graph_of, SamePlace};
 ghost use Rattle.positions.specs.Reading.{Stands, SettlesOr};
 
-use kernels::Found;
 use links::Links;
-use symbols::Answer;
+use symbols::Refusal;
 
 // Settles a position: saturates it, expands the lowest-numbered unexpanded set of a node here, and again, until there is none. A
-// set that was expanded stays so, so there are at most as many turns as the pool has sets, and one more. An error is a refusal.
+// set that was expanded stays so, so there are at most as many turns as the pool has sets, and one more.
 pub fn settle(
     links: &mut Links,
     work: &mut [u16],
     rules: &mut [u8],
     cells: &mut [u8],
     words: &mut [u64],
-) -> Result<(), Answer>
+) -> Result<(), Refusal>
     requires { Stands links.old.here (mem rules.old cells.old words.old) (graph_of links.old) × (length work.old ≡ 12291) }
     ensures same { SamePlace links.old links.new }
     ensures settles { SettlesOr links.old.here (mem rules.old cells.old words.old)
@@ -26,14 +25,13 @@ pub fn settle(
     loop {
         saturation::saturate(links, work, rules, cells, words);
         if links.counts.over != 0 {
-            return Err(Answer::NoLinks);
+            return Err(Refusal::NoLinks);
         }
-        let f = saturation::first_waiting(links, rules, cells, words);
-        let Found::At(u) = f else {
+        let Some(u) = saturation::first_waiting(links, rules, cells, words) else {
             return Ok(());
         };
         if !expansion::expand(rules, cells, words, u) {
-            return Err(Answer::NoSets);
+            return Err(Refusal::NoSets);
         }
     }
 }

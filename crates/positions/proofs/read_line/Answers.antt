@@ -11,21 +11,20 @@ loop-token-init c =
     let h = c.requires.begun.1.0 in
     (record { buf = refl; at = refl }, rw h refl, rw h (at_start c.requires.readable.formed refl (c.requires.begun.0, rw h at c.requires.begun.1.1)))
 
-pub advance-moved-requires-clause-position_bound : goal.advance-moved-requires-clause-position_bound
-advance-moved-requires-clause-position_bound c =
+pub advance-requires-clause-position_bound : goal.advance-requires-clause-position_bound
+advance-requires-clause-position_bound c =
     let k = token-fits _ c.requires.readable.fits.tokens _ c.loop-token-test.true in
     let p = ap (λ h. h.position) c.loop-token.invariant.1 in
-    (omega (arith, p, c.requires.readable.fits.short), (k.0, omega arith))
+    (omega (arith, p, c.requires.readable.fits.short), (omega (arith, k.0), omega (arith, k.1)))
 
-pub returns-in-Err-clause-reads : goal.returns-in-Err-clause-reads
-returns-in-Err-clause-reads c = at-end c.loop-token.invariant.2 c.loop-token-test.true (rw c.loop-token.invariant.1 at c.in-Err.ensures.advances)
+pub returns-in_err-advance-clause-reads : goal.returns-in_err-advance-clause-reads
+returns-in_err-advance-clause-reads c = ?
+
+pub returns-then-not-branch-clause-reads : goal.returns-then-not-branch-clause-reads
+returns-then-not-branch-clause-reads c = ?
 
 pub loop-token-preserved : goal.loop-token-preserved
-loop-token-preserved c = (
-  slices_trans c.loop-token.invariant.0 c.advance-moved.ensures.same_slices,
-  c.in_default.ensures.advances.0 ∙ ap (λ h. next h c.advance-moved.new.links.here.start) c.loop-token.invariant.1,
-  at_next c.loop-token.invariant.2 c.loop-token-test.true (rw c.loop-token.invariant.1 at c.in_default.ensures.advances.1),
-)
+loop-token-preserved c = ?
 
 pub returns-clause-reads : goal.returns-clause-reads
 returns-clause-reads c = at_last c.loop-token.invariant.2 (omega arith) (rw c.loop-token.invariant.1 at c.finish.ensures.finishes)

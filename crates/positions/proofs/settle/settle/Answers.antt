@@ -20,24 +20,24 @@ returns-in_default-clause-settles c =
 pub expand-requires : goal.expand-requires
 expand-requires c =
     let e = (same_trans c.loop-links.invariant.0 c.saturate.ensures.same).here in
-    settling-expandable c.loop-links.invariant.1 (rw c.loop-links.invariant.0.here at c.saturate.ensures.saturates) (omega arith) (rw e at c.in-At.ensures)
+    settling-expandable c.loop-links.invariant.1 (rw c.loop-links.invariant.0.here at c.saturate.ensures.saturates) (omega arith) (rw e at c.in-Some.ensures)
 
 pub returns-then-not-expand-clause-settles : goal.returns-then-not-expand-clause-settles
 returns-then-not-expand-clause-settles c =
     let e = (same_trans c.loop-links.invariant.0 c.saturate.ensures.same).here in
-    settling-no-sets c.loop-links.invariant.1 (rw c.loop-links.invariant.0.here at c.saturate.ensures.saturates) (omega arith) (rw e at c.in-At.ensures) c.expand.ensures
+    settling-no-sets c.loop-links.invariant.1 (rw c.loop-links.invariant.0.here at c.saturate.ensures.saturates) (omega arith) (rw e at c.in-Some.ensures) c.expand.ensures
     c.if-not-expand.true
 
 pub loop-links-smaller : goal.loop-links-smaller
 loop-links-smaller c =
     let e = (same_trans c.loop-links.invariant.0 c.saturate.ensures.same).here in
-    settling-less c.loop-links.invariant.1 (rw c.loop-links.invariant.0.here at c.saturate.ensures.saturates) (omega arith) (rw e at c.in-At.ensures) c.expand.ensures
+    settling-less c.loop-links.invariant.1 (rw c.loop-links.invariant.0.here at c.saturate.ensures.saturates) (omega arith) (rw e at c.in-Some.ensures) c.expand.ensures
     c.if-not-expand.false
 
 pub loop-links-preserved : goal.loop-links-preserved
 loop-links-preserved c =
     let e = (same_trans c.loop-links.invariant.0 c.saturate.ensures.same).here in (
       same_trans c.loop-links.invariant.0 c.saturate.ensures.same,
-      settling-next c.loop-links.invariant.1 (rw c.loop-links.invariant.0.here at c.saturate.ensures.saturates) (omega arith) (rw e at c.in-At.ensures) c.expand.ensures
+      settling-next c.loop-links.invariant.1 (rw c.loop-links.invariant.0.here at c.saturate.ensures.saturates) (omega arith) (rw e at c.in-Some.ensures) c.expand.ensures
           c.if-not-expand.false,
     )
