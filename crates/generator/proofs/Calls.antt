@@ -1,23 +1,24 @@
 -- How each path of a call comes to its promise. Assumes nothing.
 use mathlib.Core.Bool.{Bool, true, false, not}
 use mathlib.Core.List.{List}
-use mathlib.Core.Logic.{◌≢◌}
 use mathlib.Core.Path.{◌≡◌, refl, subst, sym}
-use Prim.Native.Nat.{ℕ, ◌≤◌, ◌<◌}
+use Prim.Native.Nat.{ℕ}
 use borrow.Author.Tests.{not-true, not-false}
 use Rattle.laws.specs.Choice.{Tells}
 use Rattle.laws.proofs.Choice.{tells_yes, tells_no}
-use Rattle.symbols.specs.Answer.{number_of}
+use Rattle.std.specs.Prelude.{Some, None, Ok, Err}
+use Rattle.symbols.specs.Answer.{refusal_number}
+use Rattle.symbols.specs.declared.refusal.Refusal.{Refusal}
+use Rattle.symbols.specs.declared.rule.Rule.{Rule}
 use Rattle.theory.specs.Table.{CURRENT, WITHDRAWN}
 use Rattle.theory.specs.Parse.{outcome}
 use Rattle.theory.specs.Expansion.{collected}
 use Rattle.theory.specs.Calls.{new_table, put_rule, add_in_form, delete_in_form, restarted, add, delete, collect, restart}
-use Rattle.table.specs.Layout.{Mem, mem, sets, rules_in, view}
+use Rattle.table.specs.Layout.{Mem, mem, sets, view}
 use Rattle.table.specs.Laid.{Formed}
 use Rattle.table.specs.Becomes.{Becomes, Promised}
 use Rattle.changes.specs.Change.{place_of, Fits}
 use Rattle.changes.specs.Touch.{unexpand}
-use Rattle.checks.specs.declared.find.Found.{Found}
 use Rattle.checks.specs.Found.{add_later, DeleteFound, AddFound}
 use Rattle.generator.specs.Calls.{NewPromised, Does, LaterFree}
 use Rattle.generator.proofs.Promises.{kept, does-nothing, does}
@@ -63,27 +64,22 @@ restart-done rs c w c₁ w₁ n f u b = restart-kept (mem rs c w) n f (restart-b
 
 -- ---- Add and Delete, by what their checks have found
 
-module _ (m : Mem) (formed : Formed m) (x : ℕ) (w : List ℕ) (f : Found) where
-  module _ (d : DeleteFound m.rules x w f) where
-    pub delete-refused : number_of f.answer ≢ 0 → Does (delete_in_form (view m) x w) m m (number_of f.answer) 0
-    delete-refused z = does-nothing formed (d.refuses z (view m).sets)
+module _ (m : Mem) (formed : Formed m) (x : ℕ) (w : List ℕ) where
+  pub delete-refused : (e : Refusal) → DeleteFound m.rules x w (Err e) → Does (delete_in_form (view m) x w) m m (refusal_number e) 0
+  delete-refused e d = does-nothing formed (d.refuses e refl (view m).sets)
 
-    pub delete-done : {n : Mem} → number_of f.answer ≡ 0 → Becomes m n (put_rule (view m) f.number (place_of WITHDRAWN f.rule))
-        → Does (delete_in_form (view m) x w) m n (number_of f.answer) f.number
-    delete-done {n} e b = subst (λ a. Does (delete_in_form (view m) x w) m n a f.number) (sym e) (does (d.deletes e (view m).sets) b)
+  pub add-refused : (e : Refusal) → AddFound m.rules x w (Err e) → Does (add_in_form (view m) x w) m m (refusal_number e) 0
+  add-refused e d = does-nothing formed (d.refuses e refl (view m).sets)
 
-  module _ (d : AddFound m.rules x w f) where
-    pub add-refused : number_of f.answer ≢ 0 → Does (add_in_form (view m) x w) m m (number_of f.answer) 0
-    add-refused z = does-nothing formed (d.refuses z (view m).sets)
+  module _ (y : Rule) {n : Mem} (r : ℕ) where
+    pub delete-done : DeleteFound m.rules x w (Ok (r, y)) → Becomes m n (put_rule (view m) r (place_of WITHDRAWN y)) → Does (delete_in_form (view m) x w) m n 0 r
+    delete-done d b = does (d.deletes r y refl (view m).sets) b
 
-    pub add_done : {n : Mem} → number_of f.answer ≡ 0 → f.number < rules_in m.rules
-        → Becomes m n (put_rule (view m) f.number (place_of CURRENT f.rule))
-        → Does (add_in_form (view m) x w) m n (number_of f.answer) f.number
-    add_done {n} e l b = subst (λ a. Does (add_in_form (view m) x w) m n a f.number) (sym e) (does (d.adds e l (view m).sets) b)
+    pub add_done : AddFound m.rules x w (Ok (Some r, y)) → Becomes m n (put_rule (view m) r (place_of CURRENT y)) → Does (add_in_form (view m) x w) m n 0 r
+    add_done d b = does (d.adds r y refl (view m).sets) b
 
-    pub later-free : number_of f.answer ≡ 0 → rules_in m.rules ≤ f.number → LaterFree m f.rule
-    later-free e l = record { inside = (d.collects e l (view m).sets).1; rule = d.rule e }
+    pub add-collected : AddFound m.rules x w (Ok (None, y)) → Does (add_later (view m) (place_of CURRENT y)) m n 0 r → Does (add_in_form (view m) x w) m n 0 r
+    add-collected d c = subst (λ o. Does o m n 0 r) (sym (d.collects y refl (view m).sets).0) c
 
-    pub add-collected : {n : Mem} {a k : ℕ} → number_of f.answer ≡ 0 → rules_in m.rules ≤ f.number
-        → Does (add_later (view m) (place_of CURRENT f.rule)) m n a k → Does (add_in_form (view m) x w) m n a k
-    add-collected {n} {a} {k} e l c = subst (λ o. Does o m n a k) (sym (d.collects e l (view m).sets).0) c
+  pub later-free : (y : Rule) → AddFound m.rules x w (Ok (None, y)) → LaterFree m y
+  later-free y d = record { inside = (d.collects y refl (view m).sets).1; rule = d.rule None y refl }

@@ -1,10 +1,12 @@
 -- The acting halves of the calls: what they ask of their steps, and what the steps come to. Assumes nothing.
+use mathlib.Core.Bool.{true}
 use mathlib.Core.List.{List}
-use mathlib.Core.Path.{◌≡◌, sym, ap, subst, ◌∙◌}
-use Prim.Native.Nat.{ℕ, ◌<◌}
+use mathlib.Core.Path.{◌≡◌, refl, sym, ap, subst, ◌∙◌}
+use Prim.Native.Nat.{ℕ}
 use native.Mathlib.Omega.{arith}
 use lib.ListN.{length, set, length-set}
-use Rattle.symbols.specs.Answer.{number_of}
+use Rattle.std.specs.Option.{is_some}
+use Rattle.std.specs.Prelude.{Option, Some, None, Ok}
 use Rattle.symbols.specs.declared.rule.Rule.{Rule}
 use Rattle.theory.specs.Table.{CURRENT, Table}
 use Rattle.theory.specs.Parse.{outcome}
@@ -19,8 +21,7 @@ use Rattle.changes.specs.Change.{place_of, MayPut, start_unexpanded}
 use Rattle.changes.specs.Touch.{unexpand}
 use Rattle.changes.proofs.UnexpandStart.{start-unexpanded}
 use Rattle.table.proofs.Becoming.{rules-seen, becomes-then}
-use Rattle.checks.specs.declared.find.Found.{Found}
-use Rattle.checks.specs.Find.{has_state, lowest}
+use Rattle.checks.specs.Find.{Lowest, has_state, lowest}
 use Rattle.checks.specs.Found.{add_later, DeleteFound, AddFound}
 use Rattle.checks.proofs.Search.{free_is}
 use Rattle.generator.specs.Calls.{Does, LaterFree}
@@ -28,38 +29,39 @@ use Rattle.generator.proofs.Promises.{does, touched-length, collected-sets, coll
 
 -- ---- a number found, the rule put there
 
-module _ (m : Mem) (formed : Formed m) (x : ℕ) (w : List ℕ) (f : Found) where
-  pub may_delete : DeleteFound m.rules x w f → number_of f.answer ≡ 0 → MayPut m f.number 2 f.rule
-  may_delete d e = record { laid = formed.laid; inside = d.inside e; not_free = omega arith; in_range = omega arith; rule = d.rule e }
+module _ (m : Mem) (formed : Formed m) (x : ℕ) (w : List ℕ) (y : Rule) (r : ℕ) where
+  pub may_delete : DeleteFound m.rules x w (Ok (r, y)) → MayPut m r 2 y
+  may_delete d = record { laid = formed.laid; inside = d.inside r y refl; not_free = omega arith; in_range = omega arith; rule = d.rule r y refl }
 
-  pub may_add : AddFound m.rules x w f → number_of f.answer ≡ 0 → f.number < rules_in m.rules → MayPut m f.number 1 f.rule
-  may_add d e l = record { laid = formed.laid; inside = l; not_free = omega arith; in_range = omega arith; rule = d.rule e }
+  pub may_add : AddFound m.rules x w (Ok (Some r, y)) → MayPut m r 1 y
+  may_add d = record { laid = formed.laid; inside = d.inside r y refl; not_free = omega arith; in_range = omega arith; rule = d.rule (Some r) y refl }
 
 -- ---- collection first
 
-module _ (m n : Mem) (x : Rule) (b : Becomes m n (collected (view m))) (free : LaterFree m x) (r : ℕ)
-    (e : r ≡ lowest (rules_in n.rules) (has_state n.rules 0)) where
+module _ (m n : Mem) (x : Rule) (b : Becomes m n (collected (view m))) (free : LaterFree m x) where
   same_size : rules_in n.rules ≡ rules_in m.rules
   same_size = sym (rules-seen n) ∙ ap (λ t. length t.rules) b.seen ∙ collected-rules (view m) ∙ rules-seen m
 
-  number : r ≡ lowest_rule is_free (collected (view m)).rules
-  number = e ∙ free_is n.rules ∙ ap (λ (t : Table). lowest_rule is_free t.rules) b.seen
+  freed : lowest (rules_in n.rules) (has_state n.rules 0) ≡ lowest_rule is_free (collected (view m)).rules
+  freed = free_is n.rules ∙ ap (λ (t : Table). lowest_rule is_free t.rules) b.seen
 
-  pub may_later : MayPut n r 1 x
-  may_later = record {
-    laid = b.laid;
-    inside = let l = free.inside in omega (arith, same_size, number);
-    not_free = omega arith;
-    in_range = omega arith;
-    rule = free.rule;
-  }
+  pub found-later : (o : Option ℕ) → Lowest (rules_in n.rules) (has_state n.rules 0) o → is_some o ≡ true
+  found-later (Some r) l = refl
+  found-later None l = let h = free.inside in absurd (omega (arith, same_size, freed))
 
-  pub later-does : (p : Mem) → Becomes n p (put_rule (view n) r (place_of CURRENT x)) → Does (add_later (view m) (place_of CURRENT x)) m p 0 r
-  later-does p c = does (ap (λ i. outcome 0 i (put_rule (collected (view m)) i (place_of CURRENT x))) (sym number))
-      (subst (λ t. Becomes m p (put_rule t r (place_of CURRENT x))) b.seen
-      (becomes-then m n p (collected (view m)) (put_rule (view n) r (place_of CURRENT x)) b c
-      (touched-length (set (view n).rules r (place_of CURRENT x)) x.left.0 (view n).sets ∙ ap (λ t. length t.sets) b.seen)
-      (length-set (view n).rules r (place_of CURRENT x) ∙ ap (λ t. length t.rules) b.seen)))
+  module _ (r : ℕ) (l : Lowest (rules_in n.rules) (has_state n.rules 0) (Some r)) where
+    number : r ≡ lowest_rule is_free (collected (view m)).rules
+    number = l.1 ∙ freed
+
+    pub may_later : MayPut n r 1 x
+    may_later = record { laid = b.laid; inside = l.0; not_free = omega arith; in_range = omega arith; rule = free.rule }
+
+    pub later-does : (p : Mem) → Becomes n p (put_rule (view n) r (place_of CURRENT x)) → Does (add_later (view m) (place_of CURRENT x)) m p 0 r
+    later-does p c = does (ap (λ i. outcome 0 i (put_rule (collected (view m)) i (place_of CURRENT x))) (sym number))
+        (subst (λ t. Becomes m p (put_rule t r (place_of CURRENT x))) b.seen
+        (becomes-then m n p (collected (view m)) (put_rule (view n) r (place_of CURRENT x)) b c
+        (touched-length (set (view n).rules r (place_of CURRENT x)) x.left.0 (view n).sets ∙ ap (λ t. length t.sets) b.seen)
+        (length-set (view n).rules r (place_of CURRENT x) ∙ ap (λ t. length t.rules) b.seen)))
 
 -- ---- Restart
 

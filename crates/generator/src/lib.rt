@@ -16,22 +16,15 @@
 // number and every lent number afterwards.
 #![tactic(auto)]
 
-ghost use Rattle.symbols.specs.Answer.{number_of};
+ghost use Rattle.symbols.specs.Answer.{number_of, answer_of, number_with};
 ghost use Rattle.theory.specs.Calls.{add, delete, collect, restart};
 ghost use Rattle.table.specs.Layout.{mem};
 ghost use Rattle.table.specs.Becomes.{Promised};
 ghost use Rattle.generator.specs.Calls.{NewPromised};
 
-use symbols::Answer;
+use symbols::Refusal;
 
 mod change; // change.rt: Add and Delete on a table in form
-
-// What Add and Delete answer: the number of the rule, 0 on a refusal.
-#[derive(Clone, Copy)]
-pub struct Changed {
-    pub answer: Answer,
-    pub rule: usize,
-}
 
 // New: a table of so many sets and places for rules. No rules, set 0 with an empty kernel, unexpanded.
 pub fn new(
@@ -40,76 +33,76 @@ pub fn new(
     words: &mut [u64],
     sets: usize,
     places: usize,
-) -> Answer
+) -> Result<(), Refusal>
     ensures { NewPromised (mem rules.old cells.old words.old) (mem rules.new cells.new words.new)
-        sets places (number_of result) }
+        sets places (number_of (answer_of result)) }
 {
     if !checks::fits(rules, cells, words, sets, places) {
-        return Answer::BadPool;
+        return Err(Refusal::BadPool);
     }
     changes::make(rules, cells, words, sets, places);
-    Answer::Done
+    Ok(())
 }
 
-// Add: the rule of a left symbol and a right side, in loose numbers.
-pub fn add(rules: &mut [u8], cells: &mut [u8], words: &mut [u64], left: u8, right: &[u8]) -> Changed
+// Add: the rule of a left symbol and a right side, in loose numbers. It answers the rule's number.
+pub fn add(
+    rules: &mut [u8],
+    cells: &mut [u8],
+    words: &mut [u64],
+    left: u8,
+    right: &[u8],
+) -> Result<usize, Refusal>
     ensures { Promised (λ t. add t left right.now)
         (mem rules.old cells.old words.old) (mem rules.new cells.new words.new)
-        (number_of result.answer) result.rule }
+        (number_of (answer_of result)) (number_with result) }
 {
     if !form::is_formed(rules, cells, words) {
-        return Changed {
-            answer: Answer::BadTable,
-            rule: 0,
-        };
+        return Err(Refusal::BadTable);
     }
     change::add(rules, cells, words, left, right)
 }
 
-// Delete: the rule becomes withdrawn.
+// Delete: the rule becomes withdrawn. It answers the rule's number.
 pub fn delete(
     rules: &mut [u8],
     cells: &mut [u8],
     words: &mut [u64],
     left: u8,
     right: &[u8],
-) -> Changed
+) -> Result<usize, Refusal>
     ensures { Promised (λ t. delete t left right.now)
         (mem rules.old cells.old words.old) (mem rules.new cells.new words.new)
-        (number_of result.answer) result.rule }
+        (number_of (answer_of result)) (number_with result) }
 {
     if !form::is_formed(rules, cells, words) {
-        return Changed {
-            answer: Answer::BadTable,
-            rule: 0,
-        };
+        return Err(Refusal::BadTable);
     }
     change::delete(rules, cells, words, left, right)
 }
 
 // Collect: every set that is not reached and every withdrawn number becomes free.
-pub fn collect(rules: &mut [u8], cells: &mut [u8], words: &mut [u64]) -> Answer
+pub fn collect(rules: &mut [u8], cells: &mut [u8], words: &mut [u64]) -> Result<(), Refusal>
     ensures { Promised collect
         (mem rules.old cells.old words.old) (mem rules.new cells.new words.new)
-        (number_of result) 0 }
+        (number_of (answer_of result)) 0 }
 {
     if !form::is_formed(rules, cells, words) {
-        return Answer::BadTable;
+        return Err(Refusal::BadTable);
     }
     collection::collect(rules, cells, words);
-    Answer::Done
+    Ok(())
 }
 
 // Restart: set 0 becomes unexpanded, then collection.
-pub fn restart(rules: &mut [u8], cells: &mut [u8], words: &mut [u64]) -> Answer
+pub fn restart(rules: &mut [u8], cells: &mut [u8], words: &mut [u64]) -> Result<(), Refusal>
     ensures { Promised restart
         (mem rules.old cells.old words.old) (mem rules.new cells.new words.new)
-        (number_of result) 0 }
+        (number_of (answer_of result)) 0 }
 {
     if !form::is_formed(rules, cells, words) {
-        return Answer::BadTable;
+        return Err(Refusal::BadTable);
     }
     changes::unexpand_start(cells, words);
     collection::collect(rules, cells, words);
-    Answer::Done
+    Ok(())
 }

@@ -1,15 +1,6 @@
 -- `generator::add` keeps its promise. Assumes nothing.
-use Rattle.generator.proofs.Promises.{no_table}
-use Rattle.generator.proofs.Calls.{told_not, told, add_kept}
+use Rattle.generator.proofs.Calls.{add_kept}
 use Rattle.generator.proofs.add.Goals as goal
 
-pub returns-then-not-is_formed : goal.returns-then-not-is_formed
-returns-then-not-is_formed c = no_table _ _ (told_not c.is_formed.result c.is_formed.ensures c.if-not-is_formed.true-raw)
-
-pub add-requires : goal.add-requires
-add-requires c =
-    told c.is_formed.result c.is_formed.ensures c.if-not-is_formed.false-raw
-
 pub returns : goal.returns
-returns c =
-    add_kept _ _ (told c.is_formed.result c.is_formed.ensures c.if-not-is_formed.false-raw) _ _ _ _ c.add.ensures
+returns c = add_kept _ _ c.if-not-is_formed.ensures _ _ _ _ c.add.ensures

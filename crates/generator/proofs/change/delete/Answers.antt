@@ -1,21 +1,13 @@
 -- Delete on a table in form does what the model's does. Assumes nothing.
-use mathlib.Core.Path.{sym, ◌∙◌}
+use Rattle.std.proofs.lemmas.Result.{err_from_is_err_and}
 use Rattle.table.proofs.Formed.{formed-rules}
-use Rattle.generator.proofs.Changing.{may_delete}
-use Rattle.generator.proofs.Calls.{delete-refused, delete-done}
+use Rattle.generator.proofs.Calls.{delete-refused}
 use Rattle.generator.proofs.change.delete.Goals as goal
 
-pub check_delete-found-requires : goal.check_delete-found-requires
-check_delete-found-requires c = formed-rules c.requires
+pub check_delete-requires : goal.check_delete-requires
+check_delete-requires c = formed-rules c.requires
 
-pub returns-then-number-ne0 : goal.returns-then-number-ne0
-returns-then-number-ne0 c =
-    delete-refused _ c.requires _ _ _ c.check_delete-found.ensures (λ z. c.if-number-ne0.true (c.number.ensures ∙ z))
-
-pub put_rule-requires : goal.put_rule-requires
-put_rule-requires c =
-    may_delete _ c.requires _ _ _ c.check_delete-found.ensures (sym c.number.ensures ∙ c.if-number-ne0.false)
-
-pub returns : goal.returns
-returns c =
-    delete-done _ c.requires _ _ _ c.check_delete-found.ensures (sym c.number.ensures ∙ c.if-number-ne0.false) c.put_rule.ensures
+pub returns-in_err-number : goal.returns-in_err-number
+returns-in_err-number c =
+    let p = err_from_is_err_and c.from_residual.result c.from_residual.ensures.1 in
+    rw (p.1, p.2) (delete-refused _ c.requires _ _ _ c.in_err-number.ensures)
