@@ -1,12 +1,11 @@
 -- What the reading calls tell, from what the floors below tell. Assumes nothing.
-use mathlib.Core.Path.{◌≡◌, subst}
+use mathlib.Core.Path.{◌≡◌, sym, subst}
 use mathlib.Core.List.{List}
 use Prim.Native.Nat.{ℕ, ◌*◌}
 use native.Mathlib.Omega.{arith}
+use Rattle.std.specs.Prelude.{Option, Some, None}
+use Rattle.std.specs.Option.{unwrap_or}
 use Rattle.kernels.specs.Kernel.{Next, Least}
-use Rattle.kernels.specs.declared.Found.{Found}
-use Rattle.kernels.specs.declared.Found.TheVariants.{At, Nothing}
-use Rattle.kernels.proofs.NextBit.{next-at, next-nothing}
 use Rattle.theory.specs.Table.{in_use}
 use Rattle.table.specs.Layout.{sets_in}
 use Rattle.collection.specs.Room.{InTables}
@@ -16,15 +15,13 @@ use Rattle.skydoublet.specs.Told.{Told, HoldsMarks, ToldInUse, ToldBit}
 pub told-there : {There : Type 0} {r value other : ℕ} → There → r ≡ value → Told There r value other
 told-there h e = record { there = λ _. e; not_there = λ no. elim (no h) [ ] }
 
-pub told-bit : (ws : List ℕ) (at n from i : ℕ) (f : Found) → Next ws at n from f → f ≡ At i → ToldBit ws at n from i
-told-bit ws at n from i f h e = let l : Least ws at n from i = next-at ws at f h e in
-    record { bit = λ _. l; none = λ le. elim (let b = l.inside in let x : ⊥ = omega arith in x) [ ] }
-
-pub told_none : (ws : List ℕ) (at n from : ℕ) (f : Found) → Next ws at n from f → f ≡ Nothing → ToldBit ws at n from (n * 64)
-told_none ws at n from f h e = record {
-  bit = λ lt. elim (let x : ⊥ = omega arith in x) [ ];
-  none = λ _. (λ z. n * 64, next-nothing ws at n from f h e);
+-- a bit that was found, or n * 64 for none
+pub told-bit : (ws : List ℕ) (at n from : ℕ) (f : Option ℕ) {r : ℕ} → Next ws at n from f → r ≡ unwrap_or f (n * 64) → ToldBit ws at n from r
+told-bit ws at n from (Some i) {r} h e = record {
+  bit = λ _. subst (Least ws at n from) (sym e) h;
+  none = λ le. let b = h.inside in let s : r ≡ i = e in absurd (omega arith);
 }
+told-bit ws at n from None {r} h e = let none : r ≡ n * 64 = e in record { bit = λ lt. absurd (omega arith); none = λ _. (none, h) }
 
 pub told-in_use : {rs cells : List ℕ} {r : ℕ} (S : ℕ) → S ≡ sets_in rs → HoldsMarks rs cells → InTables S cells in_use r
     → ToldInUse rs cells r

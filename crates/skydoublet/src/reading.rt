@@ -4,8 +4,6 @@ ghost use Rattle.std.specs.Prelude.{◌+◌, ◌*◌, ◌≤◌, ◌<◌, length
 ghost use Rattle.table.specs.Layout.{rule_number};
 ghost use Rattle.skydoublet.specs.Told.{Told, Holds, ToldInUse, ToldBit, ToldNext};
 
-use kernels::Found;
-
 // Number k of the ten of rule r, 0 where it isn't there.
 pub fn skydoublet_rule_number(rules: &[u8], r: usize, k: usize) -> u8
     ensures { Told ((2 + r * 10 + 10 ≤ length rules.now) × (k < 10)) result (rule_number rules.now r k) 0 }
@@ -97,8 +95,5 @@ fn next(words: &[u64], at: usize, n: usize, from: usize) -> usize
     requires { (at + n ≤ length words.now) × (n ≤ 18) }
     ensures { ToldBit words.now at n from result }
 {
-    let Found::At(i) = kernels::next(words, at, n, from) else {
-        return n * 64;
-    };
-    i
+    kernels::next(words, at, n, from).unwrap_or(n * 64)
 }
