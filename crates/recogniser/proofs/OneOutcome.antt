@@ -8,13 +8,15 @@ use native.Mathlib.Decide.{ℕ_discrete, dec_lt}
 use native.Mathlib.Omega.{arith}
 use lib.ListN.{length}
 use lib.Seq.{ext_get_or}
-use Rattle.symbols.specs.Answer.{number_of}
-use Rattle.symbols.proofs.Answers.{number_injective}
+use Rattle.std.specs.Prelude.{Result}
+use Rattle.symbols.specs.Answer.{number_of, answer_of_parse}
+use Rattle.symbols.specs.declared.refusal.Refusal.{Refusal}
+use Rattle.symbols.specs.declared.verdict.Verdict.{Verdict}
+use Rattle.symbols.proofs.Answers.{parse_injective}
 use Rattle.table.specs.Layout.{Mem}
 use Rattle.table.proofs.OneOutcome.{SameLengths}
 use Rattle.form.proofs.OneOutcome as form
 use Rattle.links.specs.Held.{Cleared}
-use Rattle.positions.specs.declared.Verdict.{Verdict}
 use Rattle.recogniser.specs.Parse.{Past, Parses}
 
 past_or_not : (a : ℕ) → Past a ⊎ (Past a → ⊥)
@@ -39,15 +41,14 @@ one-cleared {n} {c = c} {c'} z z' l =
       | no h ↦ z.high i (omega arith) ∙ sym (z'.high i (omega arith))
     ])
 
-pub one-outcome : {pool : ℕ} {line : List ℕ} {m n n' : Mem} {b c c' : List ℕ} {v v' : Verdict}
+pub one-outcome : {pool : ℕ} {line : List ℕ} {m n n' : Mem} {b c c' : List ℕ} {v v' : Result Verdict Refusal}
     → Parses pool line m n b c v → Parses pool line m n' b c' v'
     → SameLengths n n' → length c ≡ length c' → (n ≡ n') × (c ≡ c') × (v ≡ v')
 one-outcome {v = v} {v'} p q l k =
     let (en, ea, ek) = form.one-outcome p.promised q.promised l in
-    let e : v.answer ≡ v'.answer = number_injective v.answer v'.answer ea in
     let back = subst Past (sym ea) in (
       en,
       ⊎_elim (λ h. one-cleared (p.cleared h) (q.cleared (subst Past ea h)) k) (λ h. p.untouched h ∙ sym (q.untouched (λ z. h (back z))))
-          (past_or_not (number_of v.answer)),
-      λ i. record { answer = e i; links = ek i },
+          (past_or_not (number_of (answer_of_parse v))),
+      parse_injective v v' ea ek,
     )

@@ -10,8 +10,10 @@ use lib.ListN.{length, get_or, take, drop}
 use lib.Seq.{length-take-le, take_at, drop_at, get_or-drop}
 use Rattle.std.specs.Prelude.{IsTrue, EachIndex, slice_index}
 use Rattle.laws.proofs.Choice.{when-cases}
-use Rattle.symbols.specs.declared.answer.Answer.{Answer}
-use Rattle.symbols.specs.Answer.{number_of}
+use Rattle.std.specs.Prelude.{Result, Ok, Err}
+use Rattle.symbols.specs.declared.refusal.Refusal.{Refusal as Reason}
+use Rattle.symbols.specs.declared.verdict.Verdict.{Verdict}
+use Rattle.symbols.specs.Answer.{refusal_number, number_of, answer_of_parse, links_with}
 use Rattle.theory.specs.Table.{Table}
 use Rattle.theory.specs.Form.{InForm, in_form}
 use Rattle.theory.specs.Parse.{Outcome, outcome}
@@ -29,7 +31,6 @@ use Rattle.links.specs.Records.{numbers_for}
 use Rattle.links.specs.Held.{Cleared}
 use Rattle.laws.proofs.Tests.{all-below, passes, fails}
 use Rattle.symbols.specs.Symbol.{terminal}
-use Rattle.positions.specs.declared.Verdict.{Verdict}
 use Rattle.positions.specs.Reading.{Readable, Reads}
 use Rattle.positions.proofs.Kept.{kept-none}
 use Rattle.recogniser.specs.Parse.{lent_parse, Past, Parses}
@@ -49,7 +50,7 @@ pub part-roomy : (n : ℕ) (b : List ℕ) → n ≤ length b → n ≤ length (t
 part-roomy n b h = omega (arith, part_length n b h)
 
 -- given back as the list y
-pub part_read : {pool : ℕ} {line : List ℕ} {m n : Mem} {b : List ℕ} {v : Verdict} (y : List ℕ) → numbers_for pool ≤ length b
+pub part_read : {pool : ℕ} {line : List ℕ} {m n : Mem} {b : List ℕ} {v : Result Verdict Reason} (y : List ℕ) → numbers_for pool ≤ length b
     → length y ≡ length (take (numbers_for pool) b) → Reads pool line m n y v → ReadsOver pool line m n b (y ++ drop (numbers_for pool) b) v
 part_read {pool} {line} {m} {n} {b} {v} y r l s = record {
   reads = subst (λ y. Reads pool line m n y v) (sym (take_at y _ _ whole)) s;
@@ -100,7 +101,7 @@ module _ (m : Mem) (pool : ℕ) (line b : List ℕ) where
   passed : InForm t → (o : Outcome) → checked t o ≡ o
   passed 𝓕 o = when-cases (λ q. q ≡ o) (in_form t) (λ e. refl) (λ e. absurd (fails e ((in_form_lem t).1 𝓕)))
 
-  lent_refused : {a : Answer} → Refusal m (length b) pool line a → Formed m → lent_parse b pool line t ≡ refused (number_of a) t
+  lent_refused : {a : Reason} → Refusal m (length b) pool line a → Formed m → lent_parse b pool line t ≡ refused (refusal_number a) t
   lent_refused (bad_table f) 𝓕 = absurd (f 𝓕)
   lent_refused (bad_pool f w) 𝓕 =
       when-cases (λ o. o ≡ refused 10 t) (leb (numbers_for pool) (length b))
@@ -130,19 +131,19 @@ module _ (m : Mem) (pool : ℕ) (line b : List ℕ) where
       go (p-read g k n e) = absurd (d e)
 
   -- it leaves all untouched
-  not_past : {a : Answer} → Refusal m (length b) pool line a → Past (number_of a) → ⊥
+  not_past : {a : Reason} → Refusal m (length b) pool line a → Past (refusal_number a) → ⊥
   not_past (bad_table f) q = between q (omega arith) (omega arith)
   not_past (bad_pool f w) q = between q (omega arith) (omega arith)
   not_past (long_line f h l) q = between q (omega arith) (omega arith)
   not_past (bad_token f h l d) q = between q (omega arith) (omega arith)
 
-  bad_or : {a : Answer} → Refusal m (length b) pool line a → (Formed m → ⊥) → number_of a ≡ 11
+  bad_or : {a : Reason} → Refusal m (length b) pool line a → (Formed m → ⊥) → refusal_number a ≡ 11
   bad_or (bad_table f) d = refl
   bad_or (bad_pool f w) d = absurd (d f)
   bad_or (long_line f h l) d = absurd (d f)
   bad_or (bad_token f h l e) d = absurd (d f)
 
-  pub parses-refused : {a : Answer} → Refusal m (length b) pool line a → Parses pool line m m b b (record { answer = a; links = 0 })
+  pub parses-refused : {a : Reason} → Refusal m (length b) pool line a → Parses pool line m m b b (Err a)
   parses-refused r = record {
     promised = record {
       answer = λ 𝓕. ap (λ o. o.answer) (sym (lent_refused r 𝓕));
@@ -156,18 +157,18 @@ module _ (m : Mem) (pool : ℕ) (line b : List ℕ) where
 
   -- ---- a parse that got past its checks
 
-  module _ (R : Readable pool line m (length b)) {n : Mem} {c : List ℕ} {v : Verdict} (S : ReadsOver pool line m n b c v) where
-    is : parse t pool line ≡ outcome (number_of v.answer) v.links (view n)
+  module _ (R : Readable pool line m (length b)) {n : Mem} {c : List ℕ} {v : Result Verdict Reason} (S : ReadsOver pool line m n b c v) where
+    is : parse t pool line ≡ outcome (number_of (answer_of_parse v)) (links_with v) (view n)
     is = (outcome_of_steps t R.formed.form pool line R.fits _).1 S.reads.steps
 
-    lent : lent_parse b pool line t ≡ outcome (number_of v.answer) v.links (view n)
+    lent : lent_parse b pool line t ≡ outcome (number_of (answer_of_parse v)) (links_with v) (view n)
     lent = roomy R.roomy ∙ is
 
-    past : Past (number_of v.answer)
+    past : Past (number_of (answer_of_parse v))
     past = go (subst (Answered line) (sym (past_checks_lem t R.formed.form pool line R.fits) ∙ is)
         (parsing-answers pool t line R.formed.form))
       where
-        go : Answered line (outcome (number_of v.answer) v.links (view n)) → Past (number_of v.answer)
+        go : Answered line (outcome (number_of (answer_of_parse v)) (links_with v) (view n)) → Past (number_of (answer_of_parse v))
         go (verdict_given a z) = ⊎_elim inl (λ e. inr (inl e)) a
         go (no_room a z) = ⊎_elim (λ e. inr (inr (inl e))) (λ e. inr (inr (inr e))) a
 

@@ -1,7 +1,7 @@
 -- Parse's checks: "Parse checks 11, then 10 (links), 18, 19." Assumes nothing.
 use Rattle.std.specs.Prelude.{List, ℕ, ◌≤◌, ◌<◌, T, length, Result, Ok, Err}
-use Rattle.symbols.specs.declared.answer.Answer.{Answer}
-use Rattle.symbols.specs.declared.answer.Answer.TheVariants.{BadPool, BadTable, LongLine, BadToken}
+use Rattle.symbols.specs.declared.refusal.Refusal.{Refusal as Reason}
+use Rattle.symbols.specs.declared.refusal.Refusal.TheVariants.{BadPool, BadTable, LongLine, BadToken}
 use Rattle.theory.specs.Calls.{all_tokens}
 use Rattle.table.specs.Layout.{Mem}
 use Rattle.table.specs.Laid.{Formed}
@@ -13,13 +13,13 @@ abbrev pub PoolFits : (room pool : ℕ) → Type 0
 PoolFits room pool = (pool ≤ 4096) × (numbers_for pool ≤ room)
 
 -- why a parse is refused, over a link buffer of so many numbers
-pub data Refusal (m : Mem) (room pool : ℕ) (line : List ℕ) : Answer → Type 0 where
+pub data Refusal (m : Mem) (room pool : ℕ) (line : List ℕ) : Reason → Type 0 where
   bad_table : (Formed m → ⊥) → Refusal m room pool line BadTable
   bad_pool : Formed m → (PoolFits room pool → ⊥) → Refusal m room pool line BadPool
   long_line : Formed m → PoolFits room pool → 255 < length line → Refusal m room pool line LongLine
   bad_token : Formed m → PoolFits room pool → length line ≤ 255 → (T (all_tokens line) → ⊥) → Refusal m room pool line BadToken
 
 -- what the checks found
-abbrev pub Checks : Mem → (room pool : ℕ) → List ℕ → Result (Unit {0}) Answer → Type 0
+abbrev pub Checks : Mem → (room pool : ℕ) → List ℕ → Result (Unit {0}) Reason → Type 0
 Checks m room pool line (Ok _) = Readable pool line m room
 Checks m room pool line (Err a) = Refusal m room pool line a

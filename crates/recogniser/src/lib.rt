@@ -27,7 +27,7 @@ ghost use Rattle.positions.specs.Reading.{Readable};
 ghost use Rattle.recogniser.specs.Parse.{Parses};
 ghost use Rattle.recogniser.specs.Reading.{ReadsOver};
 
-use positions::Verdict;
+use symbols::{Refusal, Verdict};
 
 mod refusals; // refusals.rt: what is refused before anything is touched
 
@@ -39,16 +39,14 @@ pub fn parse(
     links: &mut [u16],
     pool: usize,
     line: &[u8],
-) -> Verdict
+) -> Result<Verdict, Refusal>
     ensures { Parses pool line.now (mem rules.old cells.old words.old)
         (mem rules.new cells.new words.new) links.old links.new result }
 {
-    if let Err(answer) = refusals::check(rules, cells, words, links.len(), pool, line) {
-        return Verdict::from(answer);
-    }
-    let v = read(rules, cells, words, links, pool, line);
+    refusals::check(rules, cells, words, links.len(), pool, line)?;
+    let verdict = read(rules, cells, words, links, pool, line);
     clear(links, pool);
-    v
+    verdict
 }
 
 // Reads a line that passed the checks, over the pool's part of the link buffer, and leaves the graph of links there. Here stand the
@@ -60,7 +58,7 @@ pub fn read(
     links: &mut [u16],
     pool: usize,
     line: &[u8],
-) -> Verdict
+) -> Result<Verdict, Refusal>
     requires { Readable pool line.now (mem rules.old cells.old words.old) (length links.old) }
     ensures { ReadsOver pool line.now (mem rules.old cells.old words.old)
         (mem rules.new cells.new words.new) links.old links.new result }

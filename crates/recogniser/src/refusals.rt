@@ -5,14 +5,14 @@ ghost use Rattle.theory.specs.Calls.{all_tokens};
 ghost use Rattle.table.specs.Layout.{mem};
 ghost use Rattle.recogniser.specs.Check.{PoolFits, Checks};
 
-use symbols::{Answer, Symbol};
+use symbols::{Refusal, Symbol};
 
 // The largest pool of links, and the longest line.
 const MOST_LINKS: usize = 4096;
 
 const MOST_TOKENS: usize = 255;
 
-// Parse's checks, in 01's order; the link buffer has `room` numbers. An error is the refusal.
+// Parse's checks, in 01's order; the link buffer has `room` numbers.
 pub fn check(
     rules: &[u8],
     cells: &[u8],
@@ -20,20 +20,20 @@ pub fn check(
     room: usize,
     pool: usize,
     line: &[u8],
-) -> Result<(), Answer>
+) -> Result<(), Refusal>
     ensures { Checks (mem rules.now cells.now words.now) room pool line.now result }
 {
     if !form::is_formed(rules, cells, words) {
-        return Err(Answer::BadTable);
+        return Err(Refusal::BadTable);
     }
     if !pool_fits(room, pool) {
-        return Err(Answer::BadPool);
+        return Err(Refusal::BadPool);
     }
     if line.len() > MOST_TOKENS {
-        return Err(Answer::LongLine);
+        return Err(Refusal::LongLine);
     }
     if !are_tokens(line) {
-        return Err(Answer::BadToken);
+        return Err(Refusal::BadToken);
     }
     Ok(())
 }
