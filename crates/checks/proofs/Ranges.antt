@@ -1,4 +1,4 @@
--- `(0..n).all(test)` is `all_below`, and `(0..n).find(test)` is `Lowest`. Assumes nothing.
+-- `(0..n).find(test)` is `Lowest`. Assumes nothing.
 use mathlib.Core.Path.{◌≡◌, refl, sym, ap, ◌∙◌}
 use mathlib.Core.Bool.{Bool, true, false}
 use mathlib.Core.List.{List}
@@ -9,31 +9,16 @@ use denote.Ref.{Bor}
 use native.Mathlib.Decide.{ℕ_discrete}
 use Rattle.std.proofs.iter.Yields.{nat_range_steps}
 use Rattle.std.specs.Bool.{⊤}
-use Rattle.std.specs.Fn.{Called, CalledAt}
+use Rattle.std.specs.Fn.{CalledAt}
 use Rattle.std.specs.Iterator.{YieldsThen}
 use Rattle.std.specs.List.{FoldsTo}
 use Rattle.std.specs.Option.{MatchOption}
 use Rattle.std.specs.Prelude.{Option, Some, None}
 use Rattle.std.specs.declared.ops.Range.{Range}
-use Rattle.std.proofs.lemmas.Iterator.{YieldsList-from_range, first_from_Range}
-use Rattle.std.proofs.lemmas.Iterator.Search.{all_from_yields_List}
-use Rattle.laws.specs.Loops.{all_below}
+use Rattle.std.proofs.lemmas.Iterator.{first_from_Range}
 use Rattle.laws.specs.Lists.{firstIn, up_from}
 use Rattle.laws.proofs.Choice.{when_yes, when_no}
-use Rattle.laws.proofs.Runs.{all-range}
 use Rattle.checks.specs.Find.{Lowest}
-
-pub below_from_all : {F : Type 0} {g : Mut F (ℕ × Unit {0}) Bool} {s u : Range ℕ} {f : F} {r : Bool} (test : ℕ → Bool) {b n : ℕ}
-    → (xs : List ℕ) × (o : Option ℕ) × (j : F) × YieldsThen nat_range_steps s xs o u × FoldsTo (λ p x q. Called g p (x, tt) true q) f xs j
-    × MatchOption o (r ≡ true) (λ x. (r ≡ false) × ((h : F) × Called g j (x, tt) false h))
-    → s ≡ record { start = 0; end = b } → b ≡ n
-    → ((x : ℕ) (t : Bool) (q : F) → Called g f (x, tt) t q → (q ≡ f) × (t ≡ test x))
-    → r ≡ all_below n test
-below_from_all test {b} {n} ran e l calls =
-    all_from_yields_List test _ _ _ ran (YieldsList-from_range 0 b n e (omega arith)) calls
-    ∙ all-range test n
-
--- ---- `(0..n).find(test)` is `Lowest`
 
 module _ (test : ℕ → Bool) (d : ℕ) where
   none_passes : (n k : ℕ) → ((j : ℕ) → k ≤ j → j < k + n → test j ≡ false) → d ≡ firstIn test d (up_from k n)

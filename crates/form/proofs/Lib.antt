@@ -1,6 +1,5 @@
 -- What the form test answers: its tests clause by clause, and the whole.
 pub mod Turns
-pub mod Ranges
 pub mod RuleForm
 pub mod MaskBits
 pub mod Ascending

@@ -9,7 +9,6 @@ use Rattle.std.proofs.lemmas.Bool.{eqb-true}
 use Rattle.std.proofs.lemmas.List.{take_all, ext_get_or}
 use Rattle.std.proofs.lemmas.List.Folds.{list_all_more}
 use Rattle.std.proofs.lemmas.List.FromFn.{get_or-range_with_len, length-range_with_len}
-use native.Mathlib.Nat.{zero-add}
 use Rattle.laws.specs.Choice.{◌and◌}
 use Rattle.laws.specs.Loops.{all_below}
 use Rattle.laws.proofs.Loops.{all_holds, all-at, all_cong}
@@ -32,12 +31,12 @@ module _ {X : Type 0} (f : X → Bool) (xs : List X) (d : X) where
   pub all-list : list_all f xs ≡ all_below (length xs) (λ i. f (get_or xs i d))
   all-list = ap (list_all f) (sym (take_all (length xs) xs (omega arith))) ∙ all_first (length xs) (omega arith)
 
--- over the numbers below n, as `(0..n).all(..)` has it
-pub all-range : (f : ℕ → Bool) (n : ℕ) → list_all f (range_with_len 0 n) ≡ all_below n f
-all-range f n =
-    all-list f (range_with_len 0 n) 0
-    ∙ ap (λ m. all_below m (λ i. f (get_or (range_with_len 0 n) i 0))) (length-range_with_len 0 n)
-    ∙ all_cong (λ i. f (get_or (range_with_len 0 n) i 0)) f n (λ k l. ap f (get_or-range_with_len 0 n k 0 l ∙ zero-add k))
+-- over n numbers from a on
+pub all-range : (f : ℕ → Bool) (a n : ℕ) → list_all f (range_with_len a n) ≡ all_below n (λ k. f (a + k))
+all-range f a n =
+    all-list f (range_with_len a n) 0
+    ∙ ap (λ m. all_below m (λ i. f (get_or (range_with_len a n) i 0))) (length-range_with_len a n)
+    ∙ all_cong (λ i. f (get_or (range_with_len a n) i 0)) (λ k. f (a + k)) n (λ k l. ap f (get_or-range_with_len a n k 0 l))
 
 -- two lists compared, as `==` has it
 pub same-lists : (xs ys : List ℕ) (n : ℕ) → length xs ≡ n → length ys ≡ n

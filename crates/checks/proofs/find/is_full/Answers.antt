@@ -3,7 +3,7 @@ use mathlib.Core.Path.{refl}
 use native.Mathlib.Omega.{arith}
 use Rattle.std.proofs.lemmas.Grind.{common_steps}
 use Rattle.checks.specs.Find.{has_state}
-use Rattle.checks.proofs.Ranges.{below_from_all}
+use Rattle.laws.proofs.Ranges.{below_from_all}
 use Rattle.checks.proofs.find.is_full.Goals as goal
 
 pub returns : goal.returns

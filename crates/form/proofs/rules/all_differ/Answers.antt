@@ -2,7 +2,7 @@
 use mathlib.Core.Path.{refl}
 use borrow.Author.Rules.{rules}
 use Rattle.form.specs.Rules.{rule_alone, rules_differ}
-use Rattle.form.proofs.Ranges.{below_from_all}
+use Rattle.laws.proofs.Ranges.{below_from_all}
 use Rattle.form.proofs.rules.all_differ.Goals as goal
 
 pub returns : goal.returns

@@ -2,7 +2,7 @@
 use mathlib.Core.Path.{refl}
 use borrow.Author.Rules.{rules}
 use Rattle.form.specs.Rules.{rule_fits, rules_fit}
-use Rattle.form.proofs.Ranges.{below_from_all}
+use Rattle.laws.proofs.Ranges.{below_from_all}
 use Rattle.form.proofs.rules.all_fit.Goals as goal
 
 pub returns : goal.returns

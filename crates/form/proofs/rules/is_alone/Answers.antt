@@ -9,7 +9,7 @@ use Rattle.symbols.proofs.Rules.{equal_is_same}
 use Rattle.table.specs.Write.{rule_in}
 use Rattle.table.proofs.RuleNumbers.{in_seven}
 use Rattle.form.specs.Rules.{differs, rule_alone}
-use Rattle.form.proofs.Ranges.{below_from_all}
+use Rattle.laws.proofs.Ranges.{below_from_all}
 use Rattle.form.proofs.rules.is_alone.Goals as goal
 
 pub returns-then-state-eq-FREE : goal.returns-then-state-eq-FREE

@@ -3,7 +3,7 @@ use mathlib.Core.Path.{refl}
 use borrow.Author.Rules.{rules}
 use Rattle.table.specs.Layout.{sets}
 use Rattle.form.specs.Sets.{set_fits}
-use Rattle.form.proofs.Ranges.{below_from_all}
+use Rattle.laws.proofs.Ranges.{below_from_all}
 use Rattle.form.proofs.sets.all_fit.Goals as goal
 
 pub returns : goal.returns

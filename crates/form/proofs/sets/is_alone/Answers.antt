@@ -7,7 +7,7 @@ use Rattle.laws.specs.Choice.{when}
 use Rattle.laws.specs.Loops.{all_below}
 use Rattle.table.specs.Layout.{sets}
 use Rattle.form.specs.Sets.{kernel_differs, kernel_alone}
-use Rattle.form.proofs.Ranges.{below_from_all}
+use Rattle.laws.proofs.Ranges.{below_from_all}
 use Rattle.form.proofs.sets.is_alone.Goals as goal
 
 pub returns-then-mark-eq-FREE : goal.returns-then-mark-eq-FREE

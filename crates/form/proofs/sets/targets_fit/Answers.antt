@@ -3,7 +3,7 @@ use mathlib.Core.Path.{refl}
 use borrow.Author.Rules.{rules}
 use Rattle.table.specs.Layout.{sets, cell}
 use Rattle.form.specs.Sets.{target_fits, targets_fit}
-use Rattle.form.proofs.Ranges.{below_from_all_at}
+use Rattle.laws.proofs.Ranges.{below_from_all_at}
 use Rattle.form.proofs.sets.targets_fit.Goals as goal
 
 pub returns : goal.returns
