@@ -111,7 +111,7 @@ module _ (rs : List ℕ) (x : ℕ) (w : List ℕ) where
         }
 
         -- "a withdrawn rule that is equal takes its own number back"
-        add_back : {q : ℕ} → Lowest (rules_in rs) (is_at rs 2 y) (Some q) → AddFound rs x w (Ok (Some q, y))
+        pub add_back : {q : ℕ} → Lowest (rules_in rs) (is_at rs 2 y) (Some q) → AddFound rs x w (Ok (Some q, y))
         add_back {q} (l, e) =
             let below : lowest_rule (is_rule WITHDRAWN x w) (view_rules rs) < length (view_rules rs) = omega (arith, number, view-length rs) in
             at l (λ ss. sym (when_yes _ (lt-ltb _ _ below) (ap (λ i. outcome 0 i (put_rule (with_sets rs ss) i (placed CURRENT x w))) (e ∙ number))))
@@ -121,7 +121,7 @@ module _ (rs : List ℕ) (x : ℕ) (w : List ℕ) where
           beyond = omega (arith, number, view-length rs)
 
           -- "Otherwise the lowest free number; if none is free, collection comes first."
-          add_free : (o : Option ℕ) → Lowest (rules_in rs) (has_state rs 0) o → AddFound rs x w (Ok (o, y))
+          pub add_free : (o : Option ℕ) → Lowest (rules_in rs) (has_state rs 0) o → AddFound rs x w (Ok (o, y))
           add_free (Some i) (l, h) =
               let free : i ≡ lowest_rule is_free (view_rules rs) = h ∙ free_is rs in
               let below : lowest_rule is_free (view_rules rs) < length (view_rules rs) = omega (arith, view-length rs) in

@@ -1,11 +1,7 @@
 -- How each path of a call comes to its promise. Assumes nothing.
-use mathlib.Core.Bool.{Bool, true, false, not}
 use mathlib.Core.List.{List}
 use mathlib.Core.Path.{◌≡◌, refl, subst, sym}
 use Prim.Native.Nat.{ℕ}
-use borrow.Author.Tests.{not-true, not-false}
-use Rattle.laws.specs.Choice.{Tells}
-use Rattle.laws.proofs.Choice.{tells_yes, tells_no}
 use Rattle.std.specs.Prelude.{Some, None, Ok, Err}
 use Rattle.symbols.specs.Answer.{refusal_number}
 use Rattle.symbols.specs.declared.refusal.Refusal.{Refusal}
@@ -23,14 +19,6 @@ use Rattle.checks.specs.Found.{add_later, DeleteFound, AddFound}
 use Rattle.generator.specs.Calls.{NewPromised, Does, LaterFree}
 use Rattle.generator.proofs.Promises.{kept, does-nothing, does}
 use Rattle.generator.proofs.Changing.{restart-becomes}
-
--- what a test that the code negates has told
-module _ (b : Bool) {P : Type 0} (t : Tells b P) where
-  pub told_not : not b ≡ true → P → ⊥
-  told_not h = tells_no b t (not-true b h)
-
-  pub told : not b ≡ false → P
-  told h = tells_yes b t (not-false b h)
 
 -- ---- New
 
