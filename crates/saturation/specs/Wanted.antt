@@ -1,5 +1,5 @@
 -- The links that a step is to bring, over the numbers of the buffer and of the table. Assumes nothing.
-use Rattle.std.specs.Prelude.{◌≡◌, ◌≢◌, List, ℕ, ◌+◌, ◌*◌, ◌≤◌, ◌<◌, get_or, Option, Some, None}
+use Rattle.std.specs.Prelude.{◌≡◌, ◌≢◌, List, ℕ, ◌+◌, ◌*◌, ◌≤◌, ◌<◌, get_or}
 use Rattle.kernels.specs.Kernel.{has}
 use Rattle.theory.specs.Parse.{Link, link}
 use Rattle.table.specs.Layout.{Mem, rule_number, bit_of}
@@ -37,11 +37,6 @@ pub record FirstRule (ws : List ℕ) (u from r : ℕ) : Type 0 where
   pub most : r < 128
   pub none : (j : ℕ) → from ≤ j → j < r → has ws (u * 18) (1024 + j) ≡ 0
   pub hit : has ws (u * 18) (1024 + r) ≡ 1
-
--- or there is none
-abbrev pub NextRule : List ℕ → (u from : ℕ) → Option ℕ → Type 0
-NextRule ws u from (Some r) = FirstRule ws u from r
-NextRule ws u from None = (j : ℕ) → from ≤ j → j < 128 → has ws (u * 18) (1024 + j) ≡ 0
 
 -- by the reduction r at node n, "each path of k links from it"
 pub record ByRule (m : Mem) (b : List ℕ) (links p n r : ℕ) (l : Link) : Type 0 where

@@ -21,10 +21,11 @@ ghost use Rattle.links.specs.Held.{Held};
 ghost use Rattle.links.specs.Lent.{graph_of, SameSlices, SamePlace};
 ghost use Rattle.levels.specs.Lists.{Listed};
 ghost use Rattle.kernels.specs.Kernel.{has};
-ghost use Rattle.saturation.specs.Wanted.{Targets, ToNode, ToList, ToSpan, NextRule, AtRule, AtNode, AtEvery};
+ghost use Rattle.saturation.specs.Wanted.{Targets, ToNode, ToList, ToSpan, AtRule, AtNode, AtEvery};
 ghost use Rattle.saturation.specs.Moves.{Does, Works};
 ghost use Rattle.saturation.specs.Ends.{Saturates, Shifts, Standing, Accepting, Waiting, LowestIn, next};
 
+use kernels::Bits;
 use levels::Level;
 use links::{Here, Links};
 
@@ -76,16 +77,6 @@ fn reduce(
     link_level(links, work, level, table::left(rules, r), cells);
 }
 
-// The least reduction of set u from `from` on.
-fn next_reduction(words: &[u64], u: usize, from: usize) -> Option<usize>
-    requires { (u ≤ 255) × ((from ≤ 128) × (u * 18 + 18 ≤ length words.now)) }
-    ensures { NextRule words.now u from result }
-{
-    let at = u * kernels::SET_WORDS;
-    let bit = kernels::next(words, at, kernels::SET_WORDS, kernels::ITEMS + from)?;
-    Some(bit - kernels::ITEMS)
-}
-
 // The reductions at node n.
 fn reduce_node(
     links: &mut Links,
@@ -101,11 +92,9 @@ fn reduce_node(
     ensures same { SamePlace links.old links.new }
     ensures works { Works (view (mem rules.now cells.now words.now)) links.old.here (AtNode (mem rules.now cells.now words.now) links.old.here.position n 128) (graph_of links.old) (graph_of links.new) }
 {
-    let u = links.set_of(n);
-    let mut from = 0;
-    while let Some(r) = next_reduction(words, u, from) {
+    let at = links.set_of(n) * kernels::SET_WORDS + kernels::KERNEL_WORDS;
+    for r in Bits::of(words, at, kernels::REDUCTION_WORDS) {
         reduce(links, work, n, r, rules, cells, words);
-        from = r + 1;
     }
 }
 
