@@ -6,8 +6,10 @@ use Prim.Native.Nat.{ℕ, ◌≤◌, ◌<◌}
 use native.Mathlib.Omega.{arith}
 use lib.Dec.{T, eqb, leb}
 use borrow.Author.Tests.{le-leb, lt-leb, eq-eqb, ne_eqb}
-use Rattle.laws.specs.Choice.{◌and◌, when}
-use Rattle.laws.proofs.Choice.{when_yes, when_no}
+use Rattle.laws.specs.Choice.{◌and◌}
+use Rattle.symbols.specs.Answer.{DONE, refusal_number}
+use Rattle.symbols.specs.declared.refusal.Refusal.{Refusal}
+use Rattle.symbols.proofs.Answers.{refusal_high}
 use Rattle.table.specs.Layout.{Mem}
 use Rattle.generator.specs.Calls.{NewPromised}
 use Rattle.replies.specs.Printed.{answer_line}
@@ -46,14 +48,27 @@ module _ {s r l pool : ℕ} {m : Mem} where
     links = refl;
   }
 
-  pub made-here : {n : Mem} {a pool' : ℕ} (b : List ℕ) → here s r l ≡ true → NewPromised m n s r a → pool' ≡ when (eqb a 0) l pool
-      → Makes s r l (state m b pool) (state n b pool') (answer_line a)
-  made-here {n} {a} b t p e = record {
-    answer = a;
+  -- a good N
+  pub made-here : {n : Mem} (b : List ℕ) → here s r l ≡ true → NewPromised m n s r DONE → Makes s r l (state m b pool) (state n b l) (answer_line DONE)
+  made-here b t p = record {
+    answer = DONE;
     promised = λ _. p;
     bad_pool = λ f. absurd (clash (sym t ∙ f));
-    new_pool = λ z. e ∙ sym (when_yes pool (eq-eqb a 0 z) refl);
-    old_pool = λ z. e ∙ sym (when_no l (ne_eqb a 0 z) refl);
+    new_pool = λ _. refl;
+    old_pool = λ z. absurd (z refl);
+    printed = refl;
+    links = refl;
+  }
+
+  -- an N within the desk's pools that is refused all the same
+  pub refused-there : {n : Mem} (e : Refusal) (b : List ℕ) → here s r l ≡ true → NewPromised m n s r (refusal_number e)
+      → Makes s r l (state m b pool) (state n b pool) (answer_line (refusal_number e))
+  refused-there e b t p = record {
+    answer = refusal_number e;
+    promised = λ _. p;
+    bad_pool = λ f. absurd (clash (sym t ∙ f));
+    new_pool = λ z. absurd (omega (arith, z, refusal_high e));
+    old_pool = λ _. refl;
     printed = refl;
     links = refl;
   }
