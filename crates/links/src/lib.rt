@@ -18,7 +18,7 @@ ghost use Rattle.std.specs.Prelude.{◌≡◌, ◌+◌, ◌*◌, ◌<◌, ◌≤
 ghost use Rattle.laws.specs.Choice.{Tells};
 ghost use Rattle.links.specs.Records.{source, under, previous, position, in_set, last_link, counts, put_node, put_link};
 ghost use Rattle.links.specs.Held.{Edge, Held, FindsAt, NodeOf, Adds, Cleared};
-ghost use Rattle.links.specs.Lent.{graph_of, InChains, SamePlace, root};
+ghost use Rattle.links.specs.Lent.{graph_of, InChains, SameSlices, SamePlace, root};
 
 // The numbers of a record.
 pub const RECORD: usize = 6;
@@ -65,13 +65,15 @@ pub struct Links<'a> {
 impl Links<'_> {
     // Makes it the graph of the root alone.
     pub fn begin(&mut self)
-        requires root { self.old.here ≡ root self.old.here.size self.old.here.sets }
         requires size_in_bounds { ((self.old.here.size + 1) * 6 ≤ length self.old.buf.now) × ((self.old.here.size ≤ 4096) × (length self.old.at.now ≡ 256)) }
         requires le_sets { (1 ≤ self.old.here.sets) × (self.old.here.sets ≤ 255) }
-        ensures same { SamePlace self.old self.new }
+        ensures same_slices { SameSlices self.old self.new }
+        ensures here { self.new.here ≡ root self.old.here.size self.old.here.sets }
         ensures counts { self.new.counts ≡ counts 1 0 0 }
-        ensures held { Held self.old.here (graph_of self.new) }
+        ensures held { Held self.new.here (graph_of self.new) }
     {
+        self.here.position = 0;
+        self.here.start = 0;
         put_node(self.buf, 0, 0, 0);
         put(self.at, 0, 0);
         self.counts = Counts {
