@@ -1,7 +1,8 @@
 // A table by value, and the calls on it. A call takes a copy, and hands back what it left of the numbers and what it answered. Each
 // promises what the call itself does.
-ghost use Rattle.std.specs.Prelude.{[], ◌∷◌};
+ghost use Rattle.std.specs.Prelude.{◌≡◌, [], ◌∷◌};
 ghost use Rattle.laws.specs.Choice.{Tells};
+ghost use Rattle.symbols.specs.Answer.{number_of, answer_of, answer_of_parse, number_with, links_with};
 ghost use Rattle.theory.specs.Calls.{add, delete, collect, restart, parse};
 ghost use Rattle.table.specs.Layout.{mem};
 ghost use Rattle.table.specs.Becomes.{Promised};
@@ -9,6 +10,7 @@ ghost use Rattle.table.specs.Laid.{Formed};
 ghost use Rattle.generator.specs.Calls.{NewPromised};
 
 use std::io;
+use symbols::{Refusal, Verdict};
 
 // What the pools of seven sets and five places for rules need, and a few numbers more.
 pub const RULES: usize = table::SIZES + 5 * table::RULE + 3;
@@ -21,6 +23,13 @@ pub const WORDS: usize = 7 * kernels::SET_WORDS + 2;
 const POOL: usize = 8;
 
 const LINKS: usize = (POOL + 1) * links::RECORD + 4;
+
+// 01's numbers of the answers that are no refusal.
+const DONE: u8 = 0;
+
+const ACCEPT: u8 = 1;
+
+const REJECT: u8 = 2;
 
 // The lent numbers, and what the last call answered: `number` is the rule's for Add and Delete, that of links for Parse, and 0 else.
 #[derive(Clone, Copy)]
@@ -43,15 +52,14 @@ impl Lent {
         ensures { NewPromised
             (mem self.rules self.cells self.words) (mem result.rules result.cells result.words) sets places result.answer }
     {
-        let answer = generator::new(
+        let made = generator::new(
             &mut self.rules,
             &mut self.cells,
             &mut self.words,
             sets,
             places,
         );
-        self.answer = answer.number();
-        self.number = 0;
+        (self.answer, self.number) = numbers(made.and(Ok(0)));
         self
     }
 
@@ -59,15 +67,14 @@ impl Lent {
         ensures { Promised (λ t. add t left (right ∷ []))
             (mem self.rules self.cells self.words) (mem result.rules result.cells result.words) result.answer result.number }
     {
-        let changed = generator::add(
+        let added = generator::add(
             &mut self.rules,
             &mut self.cells,
             &mut self.words,
             left,
             &[right],
         );
-        self.answer = changed.answer.number();
-        self.number = changed.rule;
+        (self.answer, self.number) = numbers(added);
         self
     }
 
@@ -75,15 +82,14 @@ impl Lent {
         ensures { Promised (λ t. delete t left (right ∷ []))
             (mem self.rules self.cells self.words) (mem result.rules result.cells result.words) result.answer result.number }
     {
-        let changed = generator::delete(
+        let deleted = generator::delete(
             &mut self.rules,
             &mut self.cells,
             &mut self.words,
             left,
             &[right],
         );
-        self.answer = changed.answer.number();
-        self.number = changed.rule;
+        (self.answer, self.number) = numbers(deleted);
         self
     }
 
@@ -91,9 +97,8 @@ impl Lent {
         ensures { Promised collect
             (mem self.rules self.cells self.words) (mem result.rules result.cells result.words) result.answer result.number }
     {
-        let answer = generator::collect(&mut self.rules, &mut self.cells, &mut self.words);
-        self.answer = answer.number();
-        self.number = 0;
+        let collected = generator::collect(&mut self.rules, &mut self.cells, &mut self.words);
+        (self.answer, self.number) = numbers(collected.and(Ok(0)));
         self
     }
 
@@ -101,9 +106,8 @@ impl Lent {
         ensures { Promised restart
             (mem self.rules self.cells self.words) (mem result.rules result.cells result.words) result.answer result.number }
     {
-        let answer = generator::restart(&mut self.rules, &mut self.cells, &mut self.words);
-        self.answer = answer.number();
-        self.number = 0;
+        let restarted = generator::restart(&mut self.rules, &mut self.cells, &mut self.words);
+        (self.answer, self.number) = numbers(restarted.and(Ok(0)));
         self
     }
 
@@ -113,7 +117,7 @@ impl Lent {
             (mem self.rules self.cells self.words) (mem result.rules result.cells result.words) result.answer result.number }
     {
         let mut links = [7u16; LINKS];
-        let verdict = recogniser::parse(
+        let parsed = recogniser::parse(
             &mut self.rules,
             &mut self.cells,
             &mut self.words,
@@ -121,18 +125,45 @@ impl Lent {
             POOL,
             line,
         );
-        self.answer = verdict.answer.number();
-        self.number = verdict.links;
-        let _ = print_links(rt, &links, self.answer);
+        let _ = print_links(rt, &links, parsed);
+        (self.answer, self.number) = parse_numbers(parsed);
         self
     }
 }
 
-// Prints `!` where Parse left the link buffer wrong. A refused parse leaves it as it was, any other leaves the pool's part zero;
-// beyond it nothing is touched.
-fn print_links(rt: &impl Print, links: &[u16; LINKS], answer: u8) -> io::Result<()> {
+// 01's number of what a call answers, and the number that comes with it, 0 on a refusal.
+fn numbers(answer: Result<usize, Refusal>) -> (u8, usize)
+    ensures { (result.0 ≡ number_of (answer_of answer)) × (result.1 ≡ number_with answer) }
+{
+    match answer {
+        Ok(number) => (DONE, number),
+        Err(refusal) => (refusal.number(), 0),
+    }
+}
+
+// Those of a parse.
+fn parse_numbers(answer: Result<Verdict, Refusal>) -> (u8, usize)
+    ensures { (result.0 ≡ number_of (answer_of_parse answer)) × (result.1 ≡ links_with answer) }
+{
+    match answer {
+        Ok(verdict) if verdict.accepts => (ACCEPT, verdict.links),
+        Ok(verdict) => (REJECT, verdict.links),
+        Err(refusal) => (refusal.number(), 0),
+    }
+}
+
+// Prints `!` where Parse left the link buffer wrong. A parse that its checks refuse leaves it as it was, any other leaves the pool's
+// part zero; beyond it nothing is touched.
+fn print_links(
+    rt: &impl Print,
+    links: &[u16; LINKS],
+    parsed: Result<Verdict, Refusal>,
+) -> io::Result<()> {
     let (pool, beyond) = links.split_at((POOL + 1) * links::RECORD);
-    let left = if 10 <= answer && answer < 20 { 7 } else { 0 };
+    let left = match parsed {
+        Ok(_) | Err(Refusal::NoSets | Refusal::NoLinks) => 0,
+        Err(_) => 7,
+    };
     if !all_are(pool, left) || !all_are(beyond, 7) {
         rt.write_all(b"!")?;
     }

@@ -1,5 +1,5 @@
--- `delete` meets its contract: the answer that it hands back is the number of the call's. Assumes nothing.
+-- `delete` meets its contract: the numbers that it keeps are those of the call's answer. Assumes nothing.
 use Rattle.unmade.proofs.calls.Lent.delete.Goals as goal
 
 pub returns : goal.returns
-returns c = simp c.number.ensures c.delete-changed.ensures
+returns c = simp c.numbers.ensures.0 (simp c.numbers.ensures.1 c.delete-deleted.ensures)

@@ -4,4 +4,4 @@ use Rattle.unmade.proofs.calls.Lent.parse.Goals as goal
 
 pub returns : goal.returns
 unfolding when
-returns g c = simp c.number.ensures c.parse-verdict.ensures.promised
+returns g c = simp c.parse_numbers.ensures.0 (simp c.parse_numbers.ensures.1 c.parse-parsed.ensures.promised)
