@@ -7,7 +7,7 @@ use super::area::{Area, key_of};
 
 impl Area<'_> {
     // The place of the span of x from i to j, if it has one.
-    pub fn find(&self, x: usize, i: usize, j: usize) -> Option<usize>
+    pub(crate) fn find(&self, x: usize, i: usize, j: usize) -> Option<usize>
         requires ordered_at { OrderedAt j self.now.numbers.now self.now.count }
         requires x_bound { (x < 256) × (i < 256) }
         ensures { MatchOption result

@@ -8,7 +8,7 @@ use super::area::{Area, FIRSTS};
 
 impl Area<'_> {
     // Puts the first place of each end up to n + 1, which no span has: behind the ends of the line stands the number of spans.
-    pub fn put_firsts(&mut self, n: usize)
+    pub(crate) fn put_firsts(&mut self, n: usize)
         requires { (Ascending self.old.numbers.now self.old.count × (self.old.count ≤ 4097)) × ((n ≤ 255) × (area_for n ≤ length self.old.numbers.now)) }
         ensures begun { Begun self.old.numbers.now self.new.numbers.now self.old.count (n + 2) }
         ensures count { self.new.count ≡ self.old.count }

@@ -14,7 +14,7 @@ use symbols::Symbol;
 impl Area<'_> {
     // Puts the spans of the links, and START's, into the area, whatever it holds: keys in order, each once, nothing kept of any, and
     // where each end begins.
-    pub fn gather(&mut self, rules: &[u8], words: &[u64], links: &[u16], count: usize, line: &[u8])
+    pub(crate) fn gather(&mut self, rules: &[u8], words: &[u64], links: &[u16], count: usize, line: &[u8])
         requires graphed { Graphed rules.now words.now (length line.now) links.now count }
         requires line_in_bounds { area_for (length line.now) ≤ length self.old.numbers.now }
         ensures gathered { (cells : List ℕ) → Gathered (length line.now)
@@ -54,12 +54,11 @@ impl Area<'_> {
         ensures long { length self.new.numbers.now ≡ length self.old.numbers.now }
         ensures same { self.new.numbers.ghost_name ≡ self.old.numbers.ghost_name }
     {
-        let node = links::number(links, k * links::RECORD);
-        let x = symbols[links::number(links, node * links::RECORD + links::SET)];
+        let node = links::source(links, k);
+        let x = symbols[links::set_of(links, node)];
         if Symbol(x).is_nonterminal() {
-            let end = links::number(links, node * links::RECORD + links::POSITION);
-            let under = links::number(links, k * links::RECORD + links::UNDER);
-            let start = links::number(links, under * links::RECORD + links::POSITION);
+            let end = links::position(links, node);
+            let start = links::position(links, links::under(links, k));
             self.insert(key_of(x as usize, start, end));
         }
     }

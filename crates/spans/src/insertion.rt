@@ -9,7 +9,7 @@ use super::area::Area;
 
 impl Area<'_> {
     // Puts the key among the places, unless it is there.
-    pub fn insert(&mut self, key: usize)
+    pub(crate) fn insert(&mut self, key: usize)
         requires { Ascending self.old.numbers.now self.old.count × (self.old.count < length self.old.numbers.now) }
         ensures inserts { Inserts self.old.numbers.now self.new.numbers.now self.old.count key self.new.count }
         ensures same { self.new.numbers.ghost_name ≡ self.old.numbers.ghost_name }

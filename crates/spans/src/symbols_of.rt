@@ -6,8 +6,6 @@ ghost use Rattle.table.specs.Layout.{sets_in, rules_in, view_rules};
 ghost use Rattle.table.specs.Laid.{LaidRules, Within};
 ghost use Rattle.spans.specs.Steps.{symbol_in, Kernels, Symbols};
 
-use kernels::Found;
-
 // Those of all sets, in their order.
 pub fn symbols_of(rules: &[u8], words: &[u64]) -> [u8; 256]
     requires { Kernels rules.now words.now }
@@ -28,8 +26,8 @@ fn symbol_of(rules: &[u8], words: &[u64], s: usize) -> u8
 {
     let found = kernels::next(words, s * kernels::SET_WORDS, kernels::KERNEL_WORDS, 0);
     match found {
-        Found::At(item) => before_dot(rules, item / kernels::DOTS, item % kernels::DOTS),
-        Found::Nothing => 0,
+        Some(item) => before_dot(rules, item / kernels::DOTS, item % kernels::DOTS),
+        None => 0,
     }
 }
 
