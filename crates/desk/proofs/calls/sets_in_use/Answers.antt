@@ -11,5 +11,5 @@ use Rattle.desk.proofs.calls.sets_in_use.Goals as goal
 pub returns : goal.returns
 returns c =
     let exact : (ws : List ℕ) → c.in_use.result ≡ in_use (view (mem c.args.rules.now c.args.cells.now ws)) =
-        λ ws. c.in_use.ensures.exact c.args.rules.now ws (sym c.sets_in-sets.ensures) in
+    λ ws. c.in_use.ensures.exact c.args.rules.now ws (sym c.sets_in-sets.ensures) in
     record { few = omega (arith, exact [], use_small (mem c.args.rules.now c.args.cells.now []), c.type_inv.rules 0); exact = λ ws l h. exact ws }
