@@ -1,14 +1,11 @@
--- A promise of an answer is one of its number. Assumes nothing.
-use mathlib.Core.Path.{◌≡◌, sym, subst}
+-- What the calls promise of an answer, of the numbers that C gets. Assumes nothing.
+use mathlib.Core.Path.{◌≡◌, refl}
 use Prim.Native.Nat.{ℕ}
-use Rattle.theory.specs.Table.{Table}
-use Rattle.theory.specs.Parse.{Outcome}
-use Rattle.table.specs.Layout.{Mem}
-use Rattle.table.specs.Becomes.{Promised}
-use Rattle.generator.specs.Calls.{NewPromised}
+use Rattle.std.specs.Prelude.{Result, Ok, Err}
+use Rattle.std.specs.Result.{result_unwrap_or}
+use Rattle.symbols.specs.Answer.{number_with}
+use Rattle.symbols.specs.declared.refusal.Refusal.{Refusal}
 
-pub new_answered : {m n : Mem} {s p a k : ℕ} → a ≡ k → NewPromised m n s p k → NewPromised m n s p a
-new_answered {m} {n} {s} {p} e h = subst (λ k. NewPromised m n s p k) (sym e) h
-
-pub answered : {call : Table → Outcome} {m n : Mem} {a k j : ℕ} → a ≡ k → Promised call m n k j → Promised call m n a j
-answered {call} {m} {n} {j = j} e h = subst (λ k. Promised call m n k j) (sym e) h
+pub changed-number : (r : Result ℕ Refusal) → number_with r ≡ result_unwrap_or r 0
+changed-number (Ok n) = refl
+changed-number (Err e) = refl

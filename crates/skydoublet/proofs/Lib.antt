@@ -1,4 +1,3 @@
--- Laws of the exported calls.
+-- Laws of the calls.
 pub mod Answered
-pub mod Told
 pub mod OneOutcome

@@ -8,7 +8,7 @@ use native.Mathlib.Decide.{dec_lt}
 use native.Mathlib.Omega.{arith}
 use lib.ListN.{length}
 use Rattle.laws.specs.Choice.{Tells}
-use Rattle.symbols.specs.Answer.{number_of}
+use Rattle.symbols.specs.Answer.{number_of, answer_of_parse, links_with}
 use Rattle.kernels.specs.Kernel.{Least}
 use Rattle.theory.specs.Table.{Table}
 use Rattle.theory.specs.Parse.{Outcome}
@@ -40,8 +40,8 @@ parse-once p q same room =
     let (table, links, verdict) = recogniser.one-outcome p.promise q.promise same room in (
       table,
       links,
-      p.answer ∙ ap (λ v. number_of v.answer) verdict ∙ sym q.answer,
-      p.links ∙ ap (λ v. v.links) verdict ∙ sym q.links,
+      p.answer ∙ ap (λ v. number_of (answer_of_parse v)) verdict ∙ sym q.answer,
+      p.links ∙ ap links_with verdict ∙ sym q.links,
     )
 
 -- the form test

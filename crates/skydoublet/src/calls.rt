@@ -1,7 +1,7 @@
 // 01's calls, and the form test.
 ghost use Rattle.std.specs.Prelude.{◌≡◌};
 ghost use Rattle.laws.specs.Choice.{Tells};
-ghost use Rattle.symbols.specs.Answer.{number_of, answer_of, number_with};
+ghost use Rattle.symbols.specs.Answer.{number_of, answer_of};
 ghost use Rattle.theory.specs.Calls.{add, delete, collect, restart};
 ghost use Rattle.table.specs.Layout.{mem};
 ghost use Rattle.table.specs.Laid.{Formed};
@@ -18,30 +18,13 @@ const ACCEPT: u8 = 1;
 
 const REJECT: u8 = 2;
 
-// The number of what a call answers.
-fn answer_of(done: Result<(), Refusal>) -> u8
+// The number of what a call answers that is done or refused.
+fn answer_of<T: Copy>(done: Result<T, Refusal>) -> u8
     ensures { result ≡ number_of (answer_of done) }
 {
     match done {
-        Ok(()) => DONE,
+        Ok(_) => DONE,
         Err(refusal) => refusal.number(),
-    }
-}
-
-// The same of a change, whose rule's number, 0 on a refusal, goes to `number`.
-fn change_of(changed: Result<usize, Refusal>, number: &mut usize) -> u8
-    ensures answer { result ≡ number_of (answer_of changed) }
-    ensures number { number.new ≡ number_with changed }
-{
-    match changed {
-        Ok(rule) => {
-            *number = rule;
-            DONE
-        }
-        Err(refusal) => {
-            *number = 0;
-            refusal.number()
-        }
     }
 }
 
@@ -72,7 +55,9 @@ pub fn skydoublet_add(
         (mem rules.old cells.old words.old) (mem rules.new cells.new words.new)
         result number.new }
 {
-    change_of(generator::add(rules, cells, words, left, right), number)
+    let changed = generator::add(rules, cells, words, left, right);
+    *number = changed.unwrap_or(0);
+    answer_of(changed)
 }
 
 // Delete. The number of the rule, 0 on a refusal, goes to `number`.
@@ -88,7 +73,9 @@ pub fn skydoublet_delete(
         (mem rules.old cells.old words.old) (mem rules.new cells.new words.new)
         result number.new }
 {
-    change_of(generator::delete(rules, cells, words, left, right), number)
+    let changed = generator::delete(rules, cells, words, left, right);
+    *number = changed.unwrap_or(0);
+    answer_of(changed)
 }
 
 // Collect.
