@@ -11,6 +11,7 @@ use lib.ListN.{length}
 use Rattle.laws.specs.Lists.{up_from}
 use Rattle.laws.proofs.Choice.{when-cases}
 use Rattle.laws.proofs.Lists.{first_in, in_up}
+use Rattle.symbols.specs.Answer.{links_with}
 use Rattle.symbols.specs.Symbol.{rule_answer}
 use Rattle.theory.specs.Table.{CURRENT, WITHDRAWN, RulePlace, Table, rule_at}
 use Rattle.theory.specs.Expansion.{collected}
@@ -112,5 +113,5 @@ lent_number b pool line t =
     when-cases (λ (o : Outcome). o.number ≤ 4096) (leb (numbers_for pool) (length b)) (λ _. parse-number t pool line)
     (λ _. when-cases (λ (o : Outcome). o.number ≤ 4096) (in_form t) (λ _. zero-le) (λ _. zero-le))
 
-pub parse_digits : {pool : ℕ} {line : List ℕ} {m n : Mem} {b c : List ℕ} {v : Result Verdict Refusal} → Parses pool line m n b c v → (links_with v) ≤ 9999
+pub parse_digits : {pool : ℕ} {line : List ℕ} {m n : Mem} {b c : List ℕ} {v : Result Verdict Refusal} → Parses pool line m n b c v → links_with v ≤ 9999
 parse_digits {pool} {line} {m} {b = b} p = promised-small p.promised (λ f. lent_number b pool line (view m))

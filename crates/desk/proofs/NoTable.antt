@@ -5,7 +5,7 @@ use mathlib.Core.List.{List}
 use Prim.Native.Nat.{ℕ}
 use native.Mathlib.Omega.{arith}
 use Rattle.laws.specs.Choice.{◌or◌, when}
-use Rattle.symbols.specs.Answer.{BAD_TABLE, number_of}
+use Rattle.symbols.specs.Answer.{BAD_TABLE, number_of, answer_of_parse, links_with}
 use Rattle.theory.specs.Table.{Table, in_use}
 use Rattle.theory.specs.Parse.{Outcome}
 use Rattle.table.specs.Layout.{Mem, sets_in, view}
@@ -62,9 +62,9 @@ bad_table none o (adds p k) = changes_says_so none p k
 bad_table none o (deletes p k) = changes_says_so none p k
 bad_table {e = e} none o (parses p k) =
     let (a, _, t) = p.parses.promised.no_table none in
-    let not_past : Past (number_of p.verdict.answer) → ⊥ = ⊎_elim (λ e. omega arith) (⊎_elim (λ e. omega arith) (⊎_elim (λ e. omega arith) (λ e. omega arith))) in
+    let not_past : Past (number_of (answer_of_parse p.verdict)) → ⊥ = ⊎_elim (λ e. omega arith) (⊎_elim (λ e. omega arith) (⊎_elim (λ e. omega arith) (λ e. omega arith))) in
     let used = in_use (view e.table) in
-    (p.printed ∙ ap (λ a. parse_line a p.verdict.links used) a ∙ parse-says_so p.verdict.links used, one_state t (p.parses.untouched not_past) k)
+    (p.printed ∙ ap (λ a. parse_line a (links_with p.verdict) used) a ∙ parse-says_so (links_with p.verdict) used, one_state t (p.parses.untouched not_past) k)
 bad_table none o (collects p k) = collects-says_so none p k
 bad_table none o (restarts p k) = collects-says_so none p k
 bad_table none o (lists p e) = (p.no_table none, e)

@@ -7,7 +7,7 @@ use mathlib.Core.List.{List}
 use Prim.Native.Nat.{ℕ}
 use native.Mathlib.Decide.{ℕ_discrete}
 use lib.ListN.{length}
-use Rattle.symbols.specs.Answer.{number_of}
+use Rattle.symbols.specs.Answer.{number_of, answer_of_parse, links_with}
 use Rattle.theory.specs.Table.{Table, in_use}
 use Rattle.theory.specs.Parse.{Outcome}
 use Rattle.table.specs.Layout.{Mem, view}
@@ -40,7 +40,7 @@ parsed_once : {pool : ℕ} {w : List ℕ} {m n n' : Mem} {b c c' x y : List ℕ}
     → SameLengths n n' → length c ≡ length c' → (n ≡ n') × (c ≡ c') × (x ≡ y)
 parsed_once p q l k =
     let (t, b, v) = recogniser.one-outcome p.parses q.parses l k in
-    (t, b, p.printed ∙ (λ i. parse_line (number_of (v i).answer) (v i).links (in_use (view (t i)))) ∙ sym q.printed)
+    (t, b, p.printed ∙ (λ i. parse_line (number_of (answer_of_parse (v i))) (links_with (v i)) (in_use (view (t i)))) ∙ sym q.printed)
 
 lists-once : {m : Mem} {x y : List ℕ} → Lists m x → Lists m y → x ≡ y
 lists-once {m} p q = ⊎_elim (λ f. p.listed f ∙ sym (q.listed f)) (λ g. p.no_table g ∙ sym (q.no_table g)) (formed_dec m)

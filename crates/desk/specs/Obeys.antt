@@ -1,6 +1,6 @@
 -- What a command does, in 01's words ("The program"): which call is made, what the numbers are afterwards, and what is printed.
 -- Assumes nothing.
-use Rattle.std.specs.Prelude.{Bool, true, false, ◌≡◌, ◌≢◌, List, ℕ, leb}
+use Rattle.std.specs.Prelude.{Bool, true, false, ◌≡◌, ◌≢◌, List, ℕ, Result, leb}
 use Rattle.laws.specs.Choice.{◌and◌}
 use Rattle.symbols.specs.Answer.{DONE, BAD_POOL, BAD_TABLE, MALFORMED, number_of, answer_of_parse, links_with}
 use Rattle.theory.specs.Table.{Table, in_use}
@@ -11,7 +11,6 @@ use Rattle.table.specs.Laid.{Formed}
 use Rattle.table.specs.Becomes.{Promised}
 use Rattle.generator.specs.Calls.{NewPromised}
 use Rattle.recogniser.specs.Parse.{Parses}
-use Rattle.std.specs.Prelude.{Result}
 use Rattle.symbols.specs.declared.refusal.Refusal.{Refusal}
 use Rattle.symbols.specs.declared.verdict.Verdict.{Verdict}
 use Rattle.script.specs.Command.{Meaning, Means}
@@ -62,7 +61,7 @@ pub record Changes (call : Table → Outcome) (m n : Mem) (text : List ℕ) : Ty
 pub record Parsed (pool : ℕ) (tokens : List ℕ) (m n : Mem) (b c : List ℕ) (text : List ℕ) : Type 0 where
   pub verdict : Result Verdict Refusal
   pub parses : Parses pool tokens m n b c verdict
-  pub printed : text ≡ parse_line (number_of verdict.answer) verdict.links (in_use (view n))
+  pub printed : text ≡ parse_line (number_of (answer_of_parse verdict)) (links_with verdict) (in_use (view n))
 
 -- "`G` collect, `R` restart; answer and sets in use."
 pub record Collects (call : Table → Outcome) (m n : Mem) (text : List ℕ) : Type 0 where

@@ -8,9 +8,8 @@ use Rattle.table.specs.Layout.{mem, view}
 use Rattle.desk.proofs.InUse.{use_small}
 use Rattle.desk.proofs.calls.sets_in_use.Goals as goal
 
-pub overflow_mul-sets : goal.overflow_mul-sets
-overflow_mul-sets c = omega (arith, c.sets_in-sets.ensures, c.type_inv.rules 0)
-
 pub returns : goal.returns
-returns c = let exact : (ws : List ℕ) → c.in_use.result ≡ in_use (view (mem c.args.rules.now c.args.cells.now ws)) = λ ws. c.in_use.ensures.exact c.args.rules.now ws (sym c.sets_in-sets.ensures) in
+returns c =
+    let exact : (ws : List ℕ) → c.in_use.result ≡ in_use (view (mem c.args.rules.now c.args.cells.now ws)) =
+    λ ws. c.in_use.ensures.exact c.args.rules.now ws (sym c.sets_in-sets.ensures) in
     record { few = omega (arith, exact [], use_small (mem c.args.rules.now c.args.cells.now []), c.type_inv.rules 0); exact = λ ws l h. exact ws }
