@@ -95,7 +95,7 @@ bad_table (parse {m = m} {pool = pool} {line = line} p e f) i = (
 -- ---- Parse on a table in form: "10 (links), 18, 19"
 
 module _ {m n : Mem} {b c : List ℕ} {pool : ℕ} {line : List ℕ} {v : Result Verdict Refusal}
-  (f : Formed m) (p : Parses pool line m n b c v) where
+    (f : Formed m) (p : Parses pool line m n b c v) where
   pub parse-bad_pool : (number_of (answer_of_parse v) ≡ BAD_POOL) ↔ ((4096 < pool) ⊎ (length b < numbers_for pool))
   parse-bad_pool = of_lent f p (λ o. (o.answer ≡ BAD_POOL) ↔ ((4096 < pool) ⊎ (length b < numbers_for pool)))
       (λ h. let (to, from) = parse-Call.bad_pool-exactly (view m) f.form pool line in

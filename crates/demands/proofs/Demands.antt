@@ -113,7 +113,7 @@ room-exact = room.room-exact
 
 -- ---- Demand 2: Parse after any sequence
 module _ {m n : Mem} {R : List Rule} (r : Run m R) {pool : ℕ} {line b c : List ℕ} {v : Result Verdict Refusal}
-  (p : Parses pool line m n b c v) where
+    (p : Parses pool line m n b c v) where
   abbrev answer : ℕ
   answer = number_of (answer_of_parse v)
 

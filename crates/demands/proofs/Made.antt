@@ -102,7 +102,7 @@ module _ {m n : Mem} {pool : ℕ} {line b c : List ℕ} {v : Result Verdict Refu
       (lent b pool line (view m) P roomy (λ h. subst P (sym (checked-is f.form (calls.refused BAD_POOL (view m)))) (short h)))
 
 module _ {m n : Mem} {R : List Rule} {pool : ℕ} {line b c : List ℕ} {v : Result Verdict Refusal}
-  (H : Holds m R) (p : Parses pool line m n b c v) where
+    (H : Holds m R) (p : Parses pool line m n b c v) where
   parse-holds : Holds n R
   parse-holds =
       let made = of_lent H.formed p (λ o. Made o.table R) (λ h. still_made H.made pool line) (λ h. H.made) in
@@ -137,7 +137,7 @@ run_holds (after r p e) = called-holds (run_holds r) p e
 -- ---- so what is known of the model's calls on made tables is known of the real ones
 
 module _ {m n : Mem} {R : List Rule} {pool : ℕ} {line b c : List ℕ} {v : Result Verdict Refusal}
-  (r : Run m R) (p : Parses pool line m n b c v) where
+    (r : Run m R) (p : Parses pool line m n b c v) where
   pub of_parse : numbers_for pool ≤ length b → (P : Outcome → Type 0) → (Made (view m) R → P (calls.parse (view m) pool line))
       → P (outcome (number_of (answer_of_parse v)) (links_with v) (view n))
   of_parse h P f = let H = run_holds r in of_lent H.formed p P (λ k. f H.made) (λ k. absurd (omega arith))

@@ -9,7 +9,7 @@ use Prim.Native.Nat.{ℕ, ◌≤◌}
 use native.Mathlib.Omega.{arith}
 use Rattle.std.specs.Prelude.{Result}
 use Rattle.laws.proofs.Choice.{when-cases}
-use Rattle.symbols.specs.Answer.{BAD_POOL, BAD_TABLE, number_of, answer_of_parse, links_with}
+use Rattle.symbols.specs.Answer.{BAD_POOL, BAD_TABLE, number_of, answer_of_parse}
 use Rattle.symbols.specs.declared.refusal.Refusal.{Refusal}
 use Rattle.symbols.specs.declared.verdict.Verdict.{Verdict}
 use Rattle.theory.specs.Table.{Table}

@@ -7,7 +7,7 @@ use Prim.Native.Nat.{ℕ, ◌+◌, ◌<◌}
 use native.Mathlib.Omega.{arith}
 use Rattle.std.specs.Prelude.{Result}
 use Rattle.laws.proofs.Tables.{length_tab}
-use Rattle.symbols.specs.Answer.{NO_SETS, number_of, answer_of_parse, links_with}
+use Rattle.symbols.specs.Answer.{NO_SETS, number_of, answer_of_parse}
 use Rattle.symbols.specs.declared.refusal.Refusal.{Refusal}
 use Rattle.symbols.specs.declared.verdict.Verdict.{Verdict}
 use Rattle.theory.specs.Table.{Reach}
