@@ -8,10 +8,14 @@ use Prim.Native.Nat.{ℕ, ◌≤◌, ◌<◌}
 use native.Mathlib.Omega.{arith}
 use lib.Dec.{T, eqb, ltb, leb}
 use lib.ListN.{length}
+use Rattle.std.specs.Prelude.{Result}
 use Rattle.laws.proofs.Choice.{when-cases}
 use Rattle.laws.proofs.Tables.{length_tab}
 use Rattle.symbols.specs.Symbol.{nonterminal, all_on_right, rule_answer}
-use Rattle.symbols.specs.Answer.{DONE, BAD_POOL, BAD_TABLE, THERE, NOT_THERE, NO_RULES, LONG_LINE, BAD_TOKEN, number_of, answer_of_parse, links_with}
+use Rattle.symbols.specs.Answer.{DONE, BAD_POOL, BAD_TABLE, THERE, NOT_THERE, NO_RULES, LONG_LINE, BAD_TOKEN}
+use Rattle.symbols.specs.Answer.{number_of, answer_of_parse}
+use Rattle.symbols.specs.declared.refusal.Refusal.{Refusal}
+use Rattle.symbols.specs.declared.verdict.Verdict.{Verdict}
 use Rattle.theory.specs.Table.{WITHDRAWN, Table}
 use Rattle.theory.specs.Expansion.{collected}
 use Rattle.theory.specs.Parse.{Outcome, outcome}
@@ -28,9 +32,6 @@ use Rattle.table.specs.Becomes.{Promised}
 use Rattle.changes.specs.Change.{Fits}
 use Rattle.generator.specs.Calls.{NewPromised}
 use Rattle.links.specs.Records.{numbers_for}
-use Rattle.std.specs.Prelude.{Result}
-use Rattle.symbols.specs.declared.refusal.Refusal.{Refusal}
-use Rattle.symbols.specs.declared.verdict.Verdict.{Verdict}
 use Rattle.recogniser.specs.Parse.{Parses}
 use Rattle.demands.specs.Run.{Called, Run}
 use Rattle.demands.specs.Run.Called.{new, add, delete, collect, restart, parse}
@@ -93,7 +94,8 @@ bad_table (parse {m = m} {pool = pool} {line = line} p e f) i = (
 
 -- ---- Parse on a table in form: "10 (links), 18, 19"
 
-module _ {m n : Mem} {b c : List ℕ} {pool : ℕ} {line : List ℕ} {v : Result Verdict Refusal} (f : Formed m) (p : Parses pool line m n b c v) where
+module _ {m n : Mem} {b c : List ℕ} {pool : ℕ} {line : List ℕ} {v : Result Verdict Refusal}
+    (f : Formed m) (p : Parses pool line m n b c v) where
   pub parse-bad_pool : (number_of (answer_of_parse v) ≡ BAD_POOL) ↔ ((4096 < pool) ⊎ (length b < numbers_for pool))
   parse-bad_pool = of_lent f p (λ o. (o.answer ≡ BAD_POOL) ↔ ((4096 < pool) ⊎ (length b < numbers_for pool)))
       (λ h. let (to, from) = parse-Call.bad_pool-exactly (view m) f.form pool line in

@@ -6,8 +6,11 @@ use mathlib.Core.Logic.{◌↔◌, ◌⊎◌}
 use mathlib.Core.List.{List, [], Memᴰ as In}
 use Prim.Native.Nat.{ℕ, ◌+◌, ◌≤◌, ◌<◌}
 use lib.ListN.{length}
+use Rattle.std.specs.Prelude.{Result}
 use Rattle.symbols.specs.Symbol.{rule_answer}
 use Rattle.symbols.specs.Answer.{BAD_TABLE, DONE, BAD_POOL, THERE, NOT_THERE, NO_RULES, NO_SETS, number_of, answer_of_parse, links_with}
+use Rattle.symbols.specs.declared.refusal.Refusal.{Refusal}
+use Rattle.symbols.specs.declared.verdict.Verdict.{Verdict}
 use Rattle.theory.specs.Items.{Expanded, Generated}
 use Rattle.theory.specs.Table.{EXPANDED, Table, free_set, set_at, grammar, automaton, Reach}
 use Rattle.theory.specs.Parse.{Outcome, outcome}
@@ -29,9 +32,6 @@ use Rattle.expansion.specs.Expansion.{Expandable, Expands}
 use Rattle.generator.specs.Calls.{NewPromised}
 use Rattle.generator.proofs.OneOutcome as generator
 use Rattle.links.specs.Records.{numbers_for}
-use Rattle.std.specs.Prelude.{Result}
-use Rattle.symbols.specs.declared.refusal.Refusal.{Refusal}
-use Rattle.symbols.specs.declared.verdict.Verdict.{Verdict}
 use Rattle.recogniser.specs.Parse.{Parses}
 use Rattle.recogniser.proofs.OneOutcome as recogniser
 use Rattle.script.specs.Command.{Means}
@@ -101,7 +101,8 @@ collect-keeps-form = kept.collect-keeps-form
 pub restart-keeps-form : {m n : Mem} {a k : ℕ} → Promised calls.restart m n a k → Formed m → Formed n
 restart-keeps-form = kept.restart-keeps-form
 
-pub parse-keeps-form : {pool : ℕ} {line b c : List ℕ} {m n : Mem} {v : Result Verdict Refusal} → Parses pool line m n b c v → Formed m → Formed n
+pub parse-keeps-form : {pool : ℕ} {line b c : List ℕ} {m n : Mem} {v : Result Verdict Refusal}
+    → Parses pool line m n b c v → Formed m → Formed n
 parse-keeps-form = kept.parse-keeps-form
 
 -- an expansion "fails exactly when the sets reachable before it, and the kernels it leads to that none of them has, together outnumber
@@ -111,7 +112,8 @@ pub room-exact : {m n : Mem} {u a b : ℕ} {done : Bool} → Expandable m u → 
 room-exact = room.room-exact
 
 -- ---- Demand 2: Parse after any sequence
-module _ {m n : Mem} {R : List Rule} (r : Run m R) {pool : ℕ} {line b c : List ℕ} {v : Result Verdict Refusal} (p : Parses pool line m n b c v) where
+module _ {m n : Mem} {R : List Rule} (r : Run m R) {pool : ℕ} {line b c : List ℕ} {v : Result Verdict Refusal}
+    (p : Parses pool line m n b c v) where
   abbrev answer : ℕ
   answer = number_of (answer_of_parse v)
 

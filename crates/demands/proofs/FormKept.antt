@@ -3,6 +3,9 @@ use mathlib.Core.Path.{sym, subst}
 use mathlib.Core.Logic.{⊎_elim}
 use mathlib.Core.List.{List}
 use Prim.Native.Nat.{ℕ}
+use Rattle.std.specs.Prelude.{Result}
+use Rattle.symbols.specs.declared.refusal.Refusal.{Refusal}
+use Rattle.symbols.specs.declared.verdict.Verdict.{Verdict}
 use Rattle.theory.specs.Table.{Table}
 use Rattle.theory.specs.Form.{InForm}
 use Rattle.theory.specs.Parse.{Outcome}
@@ -13,9 +16,6 @@ use Rattle.table.specs.Layout.{Mem, view}
 use Rattle.table.specs.Laid.{Formed}
 use Rattle.table.specs.Becomes.{Promised}
 use Rattle.generator.specs.Calls.{NewPromised}
-use Rattle.std.specs.Prelude.{Result}
-use Rattle.symbols.specs.declared.refusal.Refusal.{Refusal}
-use Rattle.symbols.specs.declared.verdict.Verdict.{Verdict}
 use Rattle.recogniser.specs.Parse.{Parses}
 use Rattle.demands.proofs.Made.{new_or, of_lent}
 
@@ -34,7 +34,8 @@ collect-keeps-form {m} = promised-keeps (theory.collect-keeps-form (view m))
 pub restart-keeps-form : {m n : Mem} {a k : ℕ} → Promised calls.restart m n a k → Formed m → Formed n
 restart-keeps-form {m} = promised-keeps (theory.restart-keeps-form (view m))
 
-pub parse-keeps-form : {pool : ℕ} {line b c : List ℕ} {m n : Mem} {v : Result Verdict Refusal} → Parses pool line m n b c v → Formed m → Formed n
+pub parse-keeps-form : {pool : ℕ} {line b c : List ℕ} {m n : Mem} {v : Result Verdict Refusal}
+    → Parses pool line m n b c v → Formed m → Formed n
 parse-keeps-form {pool} {line} {m = m} p f = record {
   laid = (p.promised.table f).laid;
   form = of_lent f p (λ o. InForm o.table) (λ h. theory.parse-keeps-form (view m) f.form pool line) (λ h. f.form);

@@ -8,11 +8,14 @@ use native.Mathlib.Decide.{dec_le}
 use native.Mathlib.Omega.{arith}
 use lib.Dec.{T, eqb, leb, leb→le, le→leb}
 use lib.ListN.{length}
+use Rattle.std.specs.Prelude.{Result}
 use Rattle.laws.specs.Choice.{◌and◌, when}
 use Rattle.laws.proofs.Choice.{when-cases}
 use Rattle.laws.proofs.Tests.{tests, passes, fails}
 use Rattle.symbols.specs.Symbol.{START}
 use Rattle.symbols.specs.Answer.{DONE, ACCEPT, BAD_POOL, number_of, answer_of_parse, links_with}
+use Rattle.symbols.specs.declared.refusal.Refusal.{Refusal}
+use Rattle.symbols.specs.declared.verdict.Verdict.{Verdict}
 use Rattle.theory.specs.Derivation.{Grammar, Derives}
 use Rattle.theory.specs.Table.{Table}
 use Rattle.theory.specs.Parse.{Outcome, outcome}
@@ -30,9 +33,6 @@ use Rattle.table.specs.Becomes.{Becomes, Promised}
 use Rattle.changes.specs.Change.{Fits}
 use Rattle.generator.specs.Calls.{NewPromised}
 use Rattle.links.specs.Records.{numbers_for}
-use Rattle.std.specs.Prelude.{Result}
-use Rattle.symbols.specs.declared.refusal.Refusal.{Refusal}
-use Rattle.symbols.specs.declared.verdict.Verdict.{Verdict}
 use Rattle.recogniser.specs.Parse.{lent_parse, Parses}
 use Rattle.demands.specs.Run.{Called, Run}
 use Rattle.demands.specs.Run.Called.{new, add, delete, collect, restart, parse}
@@ -92,7 +92,8 @@ lent b pool line t P f g =
 module _ {m n : Mem} {pool : ℕ} {line b c : List ℕ} {v : Result Verdict Refusal} (f : Formed m) (p : Parses pool line m n b c v) where
   -- what holds of the model's outcome, with room and without, holds of what the call answers and leaves
   pub of_lent : (P : Outcome → Type 0) → (numbers_for pool ≤ length b → P (calls.parse (view m) pool line))
-      → (length b < numbers_for pool → P (calls.refused BAD_POOL (view m))) → P (outcome (number_of (answer_of_parse v)) (links_with v) (view n))
+      → (length b < numbers_for pool → P (calls.refused BAD_POOL (view m)))
+      → P (outcome (number_of (answer_of_parse v)) (links_with v) (view n))
   of_lent P roomy short =
       let a = p.promised.answer f in
       let k = p.promised.number f in
@@ -100,7 +101,8 @@ module _ {m n : Mem} {pool : ℕ} {line b c : List ℕ} {v : Result Verdict Refu
       subst P (sym (λ i. record { answer = a i; number = k i; table = t i }))
       (lent b pool line (view m) P roomy (λ h. subst P (sym (checked-is f.form (calls.refused BAD_POOL (view m)))) (short h)))
 
-module _ {m n : Mem} {R : List Rule} {pool : ℕ} {line b c : List ℕ} {v : Result Verdict Refusal} (H : Holds m R) (p : Parses pool line m n b c v) where
+module _ {m n : Mem} {R : List Rule} {pool : ℕ} {line b c : List ℕ} {v : Result Verdict Refusal}
+    (H : Holds m R) (p : Parses pool line m n b c v) where
   parse-holds : Holds n R
   parse-holds =
       let made = of_lent H.formed p (λ o. Made o.table R) (λ h. still_made H.made pool line) (λ h. H.made) in
@@ -134,13 +136,15 @@ run_holds (after r p e) = called-holds (run_holds r) p e
 
 -- ---- so what is known of the model's calls on made tables is known of the real ones
 
-module _ {m n : Mem} {R : List Rule} {pool : ℕ} {line b c : List ℕ} {v : Result Verdict Refusal} (r : Run m R) (p : Parses pool line m n b c v) where
+module _ {m n : Mem} {R : List Rule} {pool : ℕ} {line b c : List ℕ} {v : Result Verdict Refusal}
+    (r : Run m R) (p : Parses pool line m n b c v) where
   pub of_parse : numbers_for pool ≤ length b → (P : Outcome → Type 0) → (Made (view m) R → P (calls.parse (view m) pool line))
       → P (outcome (number_of (answer_of_parse v)) (links_with v) (view n))
   of_parse h P f = let H = run_holds r in of_lent H.formed p P (λ k. f H.made) (λ k. absurd (omega arith))
 
   -- past the checks nothing is asked
-  pub of_past : (LeavesAll (number_of (answer_of_parse v)) → ⊥) → (P : Outcome → Type 0) → (Made (view m) R → P (calls.parse (view m) pool line))
+  pub of_past : (LeavesAll (number_of (answer_of_parse v)) → ⊥) → (P : Outcome → Type 0)
+      → (Made (view m) R → P (calls.parse (view m) pool line))
       → P (outcome (number_of (answer_of_parse v)) (links_with v) (view n))
   of_past d = of_parse (past_room (run_holds r) p d)
 

@@ -7,8 +7,11 @@ use mathlib.Core.List.Memᴰ.{tail as there}
 use mathlib.Core.List.{List, Memᴰ as In}
 use Prim.Native.Nat.{ℕ, ◌≤◌}
 use native.Mathlib.Omega.{arith}
+use Rattle.std.specs.Prelude.{Result}
 use Rattle.laws.proofs.Choice.{when-cases}
-use Rattle.symbols.specs.Answer.{BAD_POOL, BAD_TABLE, number_of, answer_of_parse, links_with}
+use Rattle.symbols.specs.Answer.{BAD_POOL, BAD_TABLE, number_of, answer_of_parse}
+use Rattle.symbols.specs.declared.refusal.Refusal.{Refusal}
+use Rattle.symbols.specs.declared.verdict.Verdict.{Verdict}
 use Rattle.theory.specs.Table.{Table}
 use Rattle.theory.specs.Parse.{Outcome}
 use Rattle.theory.specs.Form.{in_form}
@@ -24,9 +27,6 @@ use Rattle.table.specs.Laid.{Formed}
 use Rattle.table.specs.Becomes.{Becomes, Promised}
 use Rattle.table.proofs.OneOutcome.{SameLengths, one_memory}
 use Rattle.form.proofs.Formed.{formed_dec}
-use Rattle.std.specs.Prelude.{Result}
-use Rattle.symbols.specs.declared.refusal.Refusal.{Refusal}
-use Rattle.symbols.specs.declared.verdict.Verdict.{Verdict}
 use Rattle.recogniser.specs.Parse.{lent_parse, Parses}
 use Rattle.demands.specs.Run.{Called}
 use Rattle.demands.specs.Run.Called.{new, add, delete, collect, restart, parse}

@@ -5,8 +5,11 @@ use mathlib.Core.Logic.{◌↔◌}
 use mathlib.Core.List.{List}
 use Prim.Native.Nat.{ℕ, ◌+◌, ◌<◌}
 use native.Mathlib.Omega.{arith}
+use Rattle.std.specs.Prelude.{Result}
 use Rattle.laws.proofs.Tables.{length_tab}
-use Rattle.symbols.specs.Answer.{NO_SETS, number_of, answer_of_parse, links_with}
+use Rattle.symbols.specs.Answer.{NO_SETS, number_of, answer_of_parse}
+use Rattle.symbols.specs.declared.refusal.Refusal.{Refusal}
+use Rattle.symbols.specs.declared.verdict.Verdict.{Verdict}
 use Rattle.theory.specs.Table.{Reach}
 use Rattle.theory.specs.Expansion.{expand}
 use Rattle.theory.specs.Room.{Lacks, Many, NoSets}
@@ -15,9 +18,6 @@ use Rattle.theory.proofs.Room as theory
 use Rattle.theory.proofs.Demand2 as demand2
 use Rattle.table.specs.Layout.{Mem, sets_in, rules_in, set_seen, view}
 use Rattle.expansion.specs.Expansion.{Expandable, Expands}
-use Rattle.std.specs.Prelude.{Result}
-use Rattle.symbols.specs.declared.refusal.Refusal.{Refusal}
-use Rattle.symbols.specs.declared.verdict.Verdict.{Verdict}
 use Rattle.recogniser.specs.Parse.{Parses}
 use Rattle.demands.specs.Run.{Run}
 use Rattle.demands.proofs.Made.{of_past}

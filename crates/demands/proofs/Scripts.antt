@@ -4,7 +4,7 @@ use mathlib.Core.Path.{◌≡◌, refl, sym, ap, ◌∙◌, subst}
 use mathlib.Core.Logic.{◌⊎◌, inl, inr, ⊎_elim}
 use mathlib.Core.List.{List}
 use Prim.Native.Nat.{ℕ}
-use Rattle.symbols.specs.Answer.{BAD_TABLE, number_of}
+use Rattle.symbols.specs.Answer.{BAD_TABLE, number_of, answer_of_parse, links_with}
 use Rattle.theory.specs.Table.{in_use}
 use Rattle.theory.specs.Made.{Rule}
 use Rattle.theory.proofs.Demand2 as demand2
@@ -96,8 +96,8 @@ parsed {d} {e} {w} (run {R} r) (parses p k) = inr (
   R,
   r,
   record {
-    answer = number_of p.verdict.answer;
-    links = p.verdict.links;
+    answer = number_of (answer_of_parse p.verdict);
+    links = links_with p.verdict;
     sets = in_use (view e.table);
     printed = p.printed;
     decides = decides r p.parses (λ h. demand2.verdict-by_history h d.pool w);

@@ -1,6 +1,8 @@
 -- Calls on lent numbers, and sequences of them, as their contracts have them and nothing else. Assumes nothing.
 use Rattle.std.specs.Prelude.{◌≡◌, Result, List, [], ℕ}
 use Rattle.symbols.specs.Answer.{DONE, number_of, answer_of_parse, links_with}
+use Rattle.symbols.specs.declared.refusal.Refusal.{Refusal}
+use Rattle.symbols.specs.declared.verdict.Verdict.{Verdict}
 use Rattle.theory.specs.Calls as calls
 use Rattle.theory.specs.Made.{Call, Rule, left}
 use Rattle.theory.specs.Made.Call.{new as new-call, add as add-call, delete as delete-call}
@@ -8,8 +10,6 @@ use Rattle.theory.specs.Made.Call.{collect as collect-call, restart as restart-c
 use Rattle.table.specs.Layout.{Mem}
 use Rattle.table.specs.Becomes.{Promised}
 use Rattle.generator.specs.Calls.{NewPromised}
-use Rattle.symbols.specs.declared.refusal.Refusal.{Refusal}
-use Rattle.symbols.specs.declared.verdict.Verdict.{Verdict}
 use Rattle.recogniser.specs.Parse.{Parses}
 
 -- The call c on the lent numbers m answers a, with the number k (a rule's, or how many links; 0 where there is none), and leaves n
