@@ -1,5 +1,6 @@
 // The spans of the links that the link buffer holds.
-ghost use Rattle.std.specs.Prelude.{List, ℕ, ◌≡◌, ◌≤◌, ◌<◌, length};
+ghost use Rattle.std.specs.Prelude.{List, ℕ, ◌≡◌, ◌+◌, ◌≤◌, ◌<◌, length};
+ghost use Rattle.kernels.specs.Write.{write_words};
 ghost use Rattle.table.specs.Layout.{mem, view};
 ghost use Rattle.links.specs.Records.{link_of, links_in};
 ghost use Rattle.leftmost.specs.Shown.{InHand};
@@ -14,7 +15,14 @@ use symbols::Symbol;
 impl Area<'_> {
     // Puts the spans of the links, and START's, into the area, whatever it holds: keys in order, each once, nothing kept of any, and
     // where each end begins.
-    pub(crate) fn gather(&mut self, rules: &[u8], words: &[u64], links: &[u16], count: usize, line: &[u8])
+    pub(crate) fn gather(
+        &mut self,
+        rules: &[u8],
+        words: &[u64],
+        links: &[u16],
+        count: usize,
+        line: &[u8],
+    )
         requires graphed { Graphed rules.now words.now (length line.now) links.now count }
         requires line_in_bounds { area_for (length line.now) ≤ length self.old.numbers.now }
         ensures gathered { (cells : List ℕ) → Gathered (length line.now)
@@ -26,10 +34,21 @@ impl Area<'_> {
         self.take_links(links, count, &symbols);
         let n = line.len();
         self.insert(key_of(Symbol::START.0 as usize, 0, n));
-        let spans = self.count;
-        kernels::clear(self.numbers, COSTS, spans);
-        kernels::clear(self.numbers, CHOICES, spans);
+        self.forget();
         self.put_firsts(n);
+    }
+
+    // Keeps nothing of any span.
+    fn forget(&mut self)
+        requires { 8194 + self.old.count ≤ length self.old.numbers.now }
+        ensures forgotten { self.new.numbers.now ≡
+            write_words (write_words self.old.numbers.now 4097 (λ k. 0) self.old.count) 8194 (λ k. 0) self.old.count }
+        ensures long { length self.new.numbers.now ≡ length self.old.numbers.now }
+        ensures count { self.new.count ≡ self.old.count }
+        ensures same { self.new.numbers.ghost_name ≡ self.old.numbers.ghost_name }
+    {
+        kernels::clear(self.numbers, COSTS, self.count);
+        kernels::clear(self.numbers, CHOICES, self.count);
     }
 
     // Puts the keys of all links, and of nothing else.

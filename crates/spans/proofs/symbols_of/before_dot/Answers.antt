@@ -1,4 +1,4 @@
--- src/symbols_of.rt:45:9
+-- A dot that is not in front stands behind a symbol of the right side. Assumes nothing.
 use Rattle.spans.proofs.Reached.{dot_read}
 use Rattle.spans.proofs.symbols_of.before_dot.Goals as goal
 
