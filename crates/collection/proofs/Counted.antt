@@ -10,9 +10,7 @@ use native.Mathlib.Omega.{arith}
 use borrow.Author.Tests.{eq-eqb, ne_eqb, lt-ltb, le-ltb}
 use lib.Dec.{eqb, ltb}
 use lib.ListN.{length, get_or}
-use Rattle.std.proofs.Common.{Option, Some, None, cond, count_by}
-use Rattle.std.specs.List.{range_with_len}
-use Rattle.std.proofs.lemmas.List.Sums.{sum_by-cons}
+use Rattle.std.proofs.Common.{Option, Some, None, cond}
 use Rattle.std.specs.Prelude.{MatchOption}
 use Rattle.std.specs.Option.{unwrap_or}
 use Rattle.laws.specs.Choice.{when}
@@ -38,7 +36,7 @@ free_mark (suc (suc m)) = sym (ne_eqb (suc (suc m)) 0 (λ z. omega arith))
 
 -- ---- how many
 
-abbrev one : Bool → ℕ
+abbrev pub one : Bool → ℕ
 one b = cond b 1 0
 
 length_if : {A : Type 0} (b : Bool) (x : A) (l : List A) → length (consIf b x l) ≡ one b + length l
@@ -53,17 +51,30 @@ is_free cells t = eqb (get_or cells (t * 128) 0) 0
 free_seen : (cells ws : List ℕ) (n t : ℕ) → is_free cells t ≡ eqb (set_seen n (sets cells ws) t).state FREE
 free_seen cells ws n t = ap (λ p. eqb (get_or cells p 0) 0) (omega arith) ∙ sym (free_mark (cell_of cells t 0))
 
--- of the m sets from i on, whatever rules and words stand beside the cells
-count_seen : (cells ws : List ℕ) (n i m : ℕ) → count_by (is_free cells) (range_with_len i m) ≡ free_sets (tabFrom i m (set_seen n (sets cells ws)))
-count_seen cells ws n i zero = refl
-count_seen cells ws n i (suc m) =
-    let g = set_seen n (sets cells ws) in
-    sum_by-cons (λ k. one (is_free cells k)) i (range_with_len (i + 1) m)
-    ∙ ap₂ (λ b c. one b + c) (free_seen cells ws n i) (ap (λ j. count_by (is_free cells) (range_with_len j m)) (add-one i) ∙ count_seen cells ws n (suc i) m)
-    ∙ sym (length_if (eqb (g i).state FREE) (g i) (keep (λ p. eqb p.state FREE) (tabFrom (suc i) m g)))
+-- one more at the end of a table
+from_more : {A : Type 0} (f : A → Bool) (i n : ℕ) (g : ℕ → A) → length (keep f (tabFrom i (suc n) g)) ≡ length (keep f (tabFrom i n g)) + one (f (g (i + n)))
+from_more f i zero g = let e : one (f (g i)) ≡ one (f (g (i + 0))) = ap (λ k. one (f (g k))) (omega arith) in omega (arith, length_if (f (g i)) (g i) [])
+from_more f i (suc n) g =
+    let e : one (f (g (suc i + n))) ≡ one (f (g (i + suc n))) = ap (λ k. one (f (g k))) (omega arith) in
+    omega (arith, length_if (f (g i)) (g i) (keep f (tabFrom (suc i) (suc n) g)), length_if (f (g i)) (g i) (keep f (tabFrom (suc i) n g)), from_more f (suc i) n g)
 
-pub free_counted : {cells : List ℕ} {S r : ℕ} → r ≡ count_by (is_free cells) (range_with_len 0 S) → InTables S cells (λ t. free_sets t.sets) r
-free_counted {cells} {S} h = record { exact = λ rs ws e. h ∙ count_seen cells ws (rules_in rs) 0 S ∙ ap (λ j. free_sets (view_sets j (rules_in rs) (sets cells ws))) (sym e) }
+-- r of the sets below s are free, whatever rules and words stand beside the cells
+pub record FreeBelow (cells : List ℕ) (s r : ℕ) : Type 0 where
+  pub count : (n : ℕ) (ws : List ℕ) → r ≡ free_sets (view_sets s n (sets cells ws))
+
+pub free_none : {cells : List ℕ} → FreeBelow cells 0 0
+free_none = record { count = λ n ws. refl }
+
+pub free_more : {cells : List ℕ} {s r k : ℕ} → FreeBelow cells s r → k ≡ one (is_free cells s) → FreeBelow cells (s + 1) (r + k)
+free_more {cells} {s} {r} {k} h e = record {
+  count = λ n ws.
+      let g = set_seen n (sets cells ws) in
+      let m : k ≡ one (eqb (g (0 + s)).state FREE) = e ∙ ap one (free_seen cells ws n s) ∙ ap (λ j. one (eqb (g j).state FREE)) (omega arith) in
+      ap₂ ◌+◌ (h.count n ws) m ∙ sym (from_more (λ p. eqb p.state FREE) 0 s g) ∙ ap (λ j. free_sets (view_sets j n (sets cells ws))) (sym (add-one s));
+}
+
+pub free_end : {cells : List ℕ} {s S r : ℕ} → s ≡ S → FreeBelow cells s r → InTables S cells (λ t. free_sets t.sets) r
+free_end {cells} e h = record { exact = λ rs ws q. h.count (rules_in rs) ws ∙ ap (λ j. free_sets (view_sets j (rules_in rs) (sets cells ws))) (e ∙ sym q) }
 
 -- ---- free or in use
 

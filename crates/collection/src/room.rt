@@ -9,9 +9,14 @@ pub fn free_sets(cells: &[u8], sets: usize) -> usize
     requires { sets * 128 ≤ length cells.now }
     ensures { InTables sets cells.now (λ t. free_sets t.sets) result }
 {
-    (0..sets)
-        .filter(|&s| cells[s * table::ROW] == table::FREE)
-        .count()
+    // `filter(..).count()` takes a quarter more time
+    let mut free = 0;
+    for s in 0..sets {
+        if cells[s * table::ROW] == table::FREE {
+            free += 1;
+        }
+    }
+    free
 }
 
 // How many sets are in use.

@@ -1,15 +1,10 @@
--- A part of a list that is written or compared as a whole. Assumes nothing.
-use Rattle.std.proofs.Common.{◌≡◌, sym, ap, ap₂, ◌∙◌, List, ℕ, ◌+◌, ◌-◌, ◌≤◌, ◌<◌, length, get_or, take, drop, arith, rules}
+-- A part of a list that is written as a whole. Assumes nothing.
+use Rattle.std.proofs.Common.{◌≡◌, sym, ap, ◌∙◌, List, ℕ, ◌+◌, ◌-◌, ◌≤◌, ◌<◌, length, get_or, take, drop, arith, rules}
 use native.Mathlib.Decide.{dec_lt}
 use Rattle.std.proofs.lemmas.List.{ext_get_or, places, get_or-replicate}
 use Rattle.std.specs.Prelude.{replicate}
 use borrow.Rule.Slice.PartMut.{put_mid}
-use lib.Dec.{eqb}
-use lib.Pointwise.{pointwise}
 use mathlib.Core.Logic.{inl, inr}
-use Rattle.laws.specs.Loops.{all_below}
-use Rattle.laws.proofs.Loops.{all_cong}
-use Rattle.laws.proofs.Runs.{same-lists}
 use Rattle.kernels.specs.Write.{write_words}
 use Rattle.kernels.proofs.Write.{length_write, write_in, write_out}
 
@@ -40,22 +35,3 @@ part_zeroed ws ys at k n e fits zeros =
     let long : length (take k (drop at ws)) ≡ n = search (rules, places) in
     let same : ys ≡ replicate n 0 = zeros ∙ ap (λ m. replicate m 0) long in
     part_written ws ys at k n (λ j. 0) e fits (ap length same ∙ search (rules, places)) (λ j l. ap (λ zs. get_or zs j 0) same ∙ get_or-replicate n j 0 0 l)
-
--- n places compared one by one, and as two parts
-pub parts_same : (a b : List ℕ) (i j k l n : ℕ) → k ≡ n → l ≡ n → i + n ≤ length a → j + n ≤ length b
-    → pointwise eqb (take k (drop i a)) (take l (drop j b)) ≡ all_below n (λ m. eqb (get_or a (i + m) 0) (get_or b (j + m) 0))
-parts_same a b i j k l n ek el la lb =
-    same-lists xs ys n (search (rules, places)) (search (rules, places))
-    ∙ all_cong _ _ n (λ m h. ap₂ eqb (of_a m h) (of_b m h))
-  where
-    xs : List ℕ
-    xs = take k (drop i a)
-
-    ys : List ℕ
-    ys = take l (drop j b)
-
-    of_a : (m : ℕ) → m < n → get_or xs m 0 ≡ get_or a (i + m) 0
-    of_a m h = search (rules, places)
-
-    of_b : (m : ℕ) → m < n → get_or ys m 0 ≡ get_or b (j + m) 0
-    of_b m h = search (rules, places)

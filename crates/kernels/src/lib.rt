@@ -74,7 +74,12 @@ pub fn equal(a: &[u64], i: usize, b: &[u64], j: usize) -> bool
     requires { (i + 16 ≤ length a.now) × (j + 16 ≤ length b.now) }
     ensures { result ≡ same a.now i b.now j }
 {
-    a[i..i + KERNEL_WORDS] == b[j..j + KERNEL_WORDS]
+    for k in 0..KERNEL_WORDS {
+        if a[i + k] != b[j + k] {
+            return false;
+        }
+    }
+    true
 }
 
 // Whether every bit of the n words from i of a is set in the n words from j of b.

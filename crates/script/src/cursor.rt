@@ -1,5 +1,5 @@
 // The script cursor: a place in a line, and the steps that read on from it.
-ghost use Rattle.std.specs.Prelude.{◌≡◌, ◌<◌};
+ghost use Rattle.std.specs.Prelude.{◌≡◌, ◌<◌, None, MatchOption};
 ghost use Rattle.script.specs.Reading.{LetterAt, NumberAt, LineEndAt, digit_at, more, ended};
 
 // A place in a line.
@@ -39,7 +39,17 @@ impl Cursor {
         if first == 0 {
             return one.ended(line);
         }
-        one.more(line).more(line).more(line).ended(line)
+        // most numbers are short: it stops where no digit follows
+        let Some(two) = one.more(line) else {
+            return Some(one.read());
+        };
+        let Some(three) = two.more(line) else {
+            return Some(two.read());
+        };
+        let Some(four) = three.more(line) else {
+            return Some(three.read());
+        };
+        four.ended(line)
     }
 
     // Reads the line's end, to the place after it: a newline, or nothing where the text is over. "The last may lack it."
@@ -63,18 +73,23 @@ struct Digits {
 }
 
 impl Digits {
-    // With one digit more, if there is one.
-    fn more(self, line: &[u8]) -> Digits
+    // With the digit that follows them, if one does.
+    fn more(self, line: &[u8]) -> Option<Digits>
         requires { self.value < 1000 }
-        ensures { result ≡ more line.now self }
+        ensures { MatchOption result (digit_at line.now self.at ≡ None) (λ d. d ≡ more line.now self) }
     {
-        match digit(line, self.at) {
-            Some(d) => Digits {
-                value: self.value * 10 + d,
-                at: self.at + 1,
-            },
-            None => self,
-        }
+        let d = digit(line, self.at)?;
+        Some(Digits {
+            value: self.value * 10 + d,
+            at: self.at + 1,
+        })
+    }
+
+    // The number that they are, and the place after it.
+    fn read(self) -> (usize, Cursor)
+        ensures { result ≡ (self.value, record { at = self.at }) }
+    {
+        (self.value, Cursor { at: self.at })
     }
 
     // The number that they are and the place after it, unless a digit follows.
@@ -83,7 +98,7 @@ impl Digits {
     {
         match digit(line, self.at) {
             Some(_) => None,
-            None => Some((self.value, Cursor { at: self.at })),
+            None => Some(self.read()),
         }
     }
 }

@@ -1,17 +1,23 @@
 -- `collection::room::free_sets` meets its contract. Assumes nothing.
-use Rattle.std.proofs.Common.{refl, ◌∙◌, arith, rules, tests}
-use Rattle.std.specs.List.{range_with_len}
-use Rattle.std.proofs.lemmas.Iterator.{YieldsList-from_range}
-use Rattle.std.proofs.lemmas.Iterator.Consumers.{YieldsList-at, YieldsList-from_filter, count_from_yields_List}
-use Rattle.std.proofs.lemmas.List.{get_or_read}
-use Rattle.std.proofs.lemmas.List.Sums.{length-filter}
-use Rattle.collection.proofs.Counted.{free_counted, is_free}
+use Rattle.std.proofs.Common.{refl, sym, ap, subst, arith}
+use borrow.Author.Tests.{eq-eqb, ne_eqb}
+use Rattle.collection.proofs.Counted.{FreeBelow, one, free_none, free_more, free_end, free_fits}
 use Rattle.collection.proofs.room.free_sets.Goals as goal
+use Rattle.collection.proofs.room.free_sets.Goals.{then-cells-s-eq-FREE, else-cells-s-eq-FREE}
+
+pub loop-s-init : goal.loop-s-init
+loop-s-init c = free_none
+
+pub overflow_add-free : goal.overflow_add-free
+overflow_add-free c =
+    omega (arith, free_fits (free_end refl (free_more c.loop-s.invariant (sym (ap one (eq-eqb _ _ c.if-cells-s-eq-FREE.true))))))
+
+pub loop-s-preserved : goal.loop-s-preserved
+loop-s-preserved c = elim c.if-cells-s-eq-FREE.branch [
+  | then-cells-s-eq-FREE w ↦ rw w.free-is (free_more c.loop-s.invariant (sym (ap one (eq-eqb _ _ w.if-cells-s-eq-FREE.true))))
+  | else-cells-s-eq-FREE w ↦
+      rw w.free-is (subst (FreeBelow _ _) (omega arith) (free_more c.loop-s.invariant (sym (ap one (ne_eqb _ _ w.if-cells-s-eq-FREE.false)))))
+]
 
 pub returns : goal.returns
-returns c =
-    let free = is_free c.args.cells.now in
-    let sets = YieldsList-at c.filter.ensures.source (YieldsList-from_range 0 c.args.sets c.args.sets refl (omega arith)) in
-    free_counted (count_from_yields_List _ _ c.count.ensures.ran
-    (YieldsList-from_filter _ free sets c.filter.ensures.closure (λ x b q k. (search rules, grind (arith, tests, get_or_read))))
-    ∙ length-filter free (range_with_len 0 c.args.sets))
+returns c = free_end (omega arith) c.loop-s.invariant

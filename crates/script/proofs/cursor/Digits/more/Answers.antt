@@ -6,15 +6,11 @@ use Rattle.script.proofs.Reading.{digit-there}
 use Rattle.script.proofs.cursor.Digits.more.Goals as goal
 
 pub overflow_add-result : goal.overflow_add-result
-overflow_add-result c = let t = digit-there (sym c.in-Some.ensures) in omega (arith, c.requires, t.small)
+overflow_add-result c = let t = digit-there (sym c.in_ok-d.ensures) in omega (arith, c.requires, t.small)
 
-pub overflow_add-result-in-Some : goal.overflow_add-result-in-Some
-overflow_add-result-in-Some c = let t = digit-there (sym c.in-Some.ensures) in omega (arith, t.inside)
+pub overflow_add-result-2 : goal.overflow_add-result-2
+overflow_add-result-2 c = let t = digit-there (sym c.in_ok-d.ensures) in omega (arith, t.inside)
 
-pub returns-in-Some : goal.returns-in-Some
+pub returns : goal.returns
 unfolding with_digit
-returns-in-Some c = ap (with_digit c.args.self) c.in-Some.ensures
-
-pub returns-in-None : goal.returns-in-None
-unfolding with_digit
-returns-in-None c = ap (with_digit c.args.self) c.in-None.ensures
+returns c = ap (with_digit c.args.self) c.in_ok-d.ensures
