@@ -13,11 +13,9 @@
 
 ghost use Rattle.std.specs.Prelude.{◌≡◌, ℕ, ◌+◌, ◌*◌, ◌<◌, ◌≤◌, length};
 ghost use Rattle.laws.specs.Choice.{Tells};
-ghost use Rattle.links.specs.Lent.{InChains};
+ghost use Rattle.links.specs.Held.{Chained};
 ghost use Rattle.levels.specs.Lists.{On, Listed, Made, Puts, listed};
 ghost use Rattle.levels.specs.Reached.{Spread, Under, Reached};
-
-use links::Links;
 
 // How many nodes a pool can have, and so the longest list.
 pub const NODES: usize = 4097;
@@ -35,7 +33,7 @@ pub struct Level {
 impl Level {
     // Node number i of the list.
     pub fn node(self, work: &[u16], i: usize) -> usize
-        requires { (length work.now ≡ 12291) × ((self.side ≤ 1) × (i < 4097)) }
+        requires { (length work.now ≡ 12291) × ((self.side ≤ 1) × (i ≤ 4097)) }
         ensures { result ≡ listed work.now self.side i }
     {
         links::number(work, self.side * NODES + i)
@@ -68,26 +66,26 @@ impl Level {
     }
 
     // Puts the nodes under node n onto the list.
-    fn spread(&mut self, links: &Links, work: &mut [u16], n: usize)
-        requires chained { InChains links.now }
-        requires work_len { (length work.old ≡ 12291) × ((self.old.side ≤ 1) × (n < links.now.counts.nodes)) }
-        requires made { Made work.old self.old.side self.old.count links.now.counts.nodes }
+    fn spread(&mut self, buf: &[u16], work: &mut [u16], nodes: usize, links: usize, n: usize)
+        requires chained { Chained buf.now nodes links }
+        requires work_len { (length work.old ≡ 12291) × ((self.old.side ≤ 1) × (n < nodes)) }
+        requires made { Made work.old self.old.side self.old.count nodes }
         ensures side { self.new.side ≡ self.old.side }
-        ensures spread { Spread links.now.buf.now links.now.counts.links self.old.side links.now.counts.nodes n work.old self.old.count work.new self.new.count }
+        ensures spread { Spread buf.now links self.old.side nodes n work.old self.old.count work.new self.new.count }
     {
-        let mut k = links::last_link(links.buf, n);
+        let mut k = links::last_link(buf, n);
         while k != 0 {
-            self.put(work, links::under(links.buf, k));
-            k = links::before(links.buf, k);
+            self.put(work, links::under(buf, k));
+            k = links::before(buf, k);
         }
     }
 
     // The level under this one, on the other side.
-    fn under(self, links: &Links, work: &mut [u16]) -> Level
-        requires chained { InChains links.now }
+    fn under(self, buf: &[u16], work: &mut [u16], nodes: usize, links: usize) -> Level
+        requires chained { Chained buf.now nodes links }
         requires work_len { (length work.old ≡ 12291) × (self.side ≤ 1) }
-        requires listed { Listed work.old self.side self.count links.now.counts.nodes }
-        ensures { (result.side ≤ 1) × Under links.now.buf.now links.now.counts.links links.now.counts.nodes work.old self.side self.count work.new result.side result.count }
+        requires listed { Listed work.old self.side self.count nodes }
+        ensures { (result.side ≤ 1) × Under buf.now links nodes work.old self.side self.count work.new result.side result.count }
     {
         let mut next = Level {
             side: 1 - self.side,
@@ -95,22 +93,30 @@ impl Level {
         };
         for i in 0..self.count {
             let n = self.node(work, i);
-            next.spread(links, work, n);
+            next.spread(buf, work, nodes, links, n);
         }
         next
     }
 }
 
-// The nodes that the paths of k links from node n lead to.
-pub fn levels(links: &Links, work: &mut [u16], n: usize, k: usize) -> Level
-    requires chained { InChains links.now }
-    requires work_len { (length work.old ≡ 12291) × (n < links.now.counts.nodes) }
-    ensures { (result.side ≤ 1) × Reached links.now.buf.now links.now.counts.links links.now.counts.nodes n k work.new result.side result.count }
+// The nodes that the paths of k links from node n lead to. It only reads the graph, so it takes the buffer alone, and not `Links`: a
+// caller may share it.
+pub fn levels(
+    buf: &[u16],
+    work: &mut [u16],
+    nodes: usize,
+    links: usize,
+    n: usize,
+    k: usize,
+) -> Level
+    requires chained { Chained buf.now nodes links }
+    requires work_len { (length work.old ≡ 12291) × (n < nodes) }
+    ensures { (result.side ≤ 1) × Reached buf.now links nodes n k work.new result.side result.count }
 {
     links::put(work, 0, n);
     let mut level = Level { side: 0, count: 1 };
     for _ in 0..k {
-        level = level.under(links, work);
+        level = level.under(buf, work, nodes, links);
     }
     level
 }

@@ -24,18 +24,19 @@ ghost use Rattle.links.specs.Lent.{graph_of, InChains, SameSlices, SamePlace, ro
 pub const RECORD: usize = 6;
 
 // Of a link: its source comes first, then the node under it and the link before it.
-const UNDER: usize = 1;
+pub const UNDER: usize = 1;
 
-const BEFORE: usize = 2;
+pub const BEFORE: usize = 2;
 
 // Of a node: its position, its set and its last link.
-const POSITION: usize = 3;
+pub const POSITION: usize = 3;
 
-const SET: usize = 4;
+pub const SET: usize = 4;
 
-const LAST: usize = 5;
+pub const LAST: usize = 5;
 
-// How many nodes and links there are; and the mark `over`, 1 if a link was asked for that the pool has no room for, else 0.
+// How many nodes and links there are; and the mark `over`, 1 if a link was asked for that the pool has no room for, else 0. It is
+// a whole word: as a bool, in a struct that was handed from call to call, its padding was copied in pieces, which tripled the time.
 #[derive(Clone, Copy, Default)]
 pub struct Counts {
     pub nodes: usize,
@@ -122,7 +123,7 @@ impl Links<'_> {
 
     // The set of node n.
     pub fn set_of(&self, n: usize) -> usize
-        requires { n * 6 + 5 < length self.now.buf.now }
+        requires { n * 6 + 4 < length self.now.buf.now }
         ensures { result ≡ in_set self.now.buf.now n }
     {
         set_of(self.buf, n)
@@ -176,7 +177,7 @@ pub fn put(b: &mut [u16], i: usize, x: usize)
 
 // The source node of link k.
 pub fn source(b: &[u16], k: usize) -> usize
-    requires { k * 6 + 5 < length b.now }
+    requires { k * 6 < length b.now }
     ensures { result ≡ source b.now k }
 {
     number(b, k * RECORD)
@@ -184,7 +185,7 @@ pub fn source(b: &[u16], k: usize) -> usize
 
 // The node under link k.
 pub fn under(b: &[u16], k: usize) -> usize
-    requires { k * 6 + 5 < length b.now }
+    requires { k * 6 + 1 < length b.now }
     ensures { result ≡ under b.now k }
 {
     number(b, k * RECORD + UNDER)
@@ -192,7 +193,7 @@ pub fn under(b: &[u16], k: usize) -> usize
 
 // The link of the same source before link k, 0 where there is none.
 pub fn before(b: &[u16], k: usize) -> usize
-    requires { k * 6 + 5 < length b.now }
+    requires { k * 6 + 2 < length b.now }
     ensures { result ≡ previous b.now k }
 {
     number(b, k * RECORD + BEFORE)
@@ -200,7 +201,7 @@ pub fn before(b: &[u16], k: usize) -> usize
 
 // The position of node n.
 pub fn position(b: &[u16], n: usize) -> usize
-    requires { n * 6 + 5 < length b.now }
+    requires { n * 6 + 3 < length b.now }
     ensures { result ≡ position b.now n }
 {
     number(b, n * RECORD + POSITION)
@@ -208,7 +209,7 @@ pub fn position(b: &[u16], n: usize) -> usize
 
 // The set of node n.
 pub fn set_of(b: &[u16], n: usize) -> usize
-    requires { n * 6 + 5 < length b.now }
+    requires { n * 6 + 4 < length b.now }
     ensures { result ≡ in_set b.now n }
 {
     number(b, n * RECORD + SET)

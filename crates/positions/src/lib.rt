@@ -150,7 +150,7 @@ fn judge(links: &Links, rules: &[u8], cells: &[u8], words: &[u64]) -> Verdict
     ensures { Judges links.now.here (mem rules.now cells.now words.now) links.now.buf.now links.now.counts result }
 {
     Verdict {
-        accepts: saturation::accepts(links, rules, cells, words),
+        accepts: saturation::accepts(links.buf, rules, cells, words, links.counts, links.here),
         links: links.counts.links,
     }
 }

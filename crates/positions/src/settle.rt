@@ -1,7 +1,10 @@
 // A position settled: saturated and expanded, in turn, until neither brings anything new.
 ghost use Rattle.std.specs.Prelude.{◌≡◌, length};
-ghost use Rattle.table.specs.Layout.{mem};
+ghost use Rattle.table.specs.Layout.{mem, view, sets_in};
+ghost use Rattle.table.specs.Laid.{Formed};
+ghost use Rattle.links.specs.Records.{links_in};
 ghost use Rattle.links.specs.Lent.{graph_of, SamePlace};
+ghost use Rattle.saturation.specs.Ends.{Standing, Waiting};
 ghost use Rattle.positions.specs.Reading.{Stands, SettlesOr};
 
 use links::Links;
@@ -27,11 +30,20 @@ pub fn settle(
         if links.counts.over != 0 {
             return Err(Refusal::NoLinks);
         }
-        let Some(u) = saturation::first_waiting(links, rules, cells, words) else {
+        let Some(u) = first_waiting(links, rules, cells, words) else {
             return Ok(());
         };
         if !expansion::expand(rules, cells, words, u) {
             return Err(Refusal::NoSets);
         }
     }
+}
+
+// The lowest-numbered unexpanded set of a node here.
+fn first_waiting(links: &Links, rules: &[u8], cells: &[u8], words: &[u64]) -> Option<usize>
+    requires standing { Standing links.now.here links.now.buf.now links.now.counts }
+    requires formed { Formed (mem rules.now cells.now words.now) × (links.now.here.sets ≡ sets_in rules.now) }
+    ensures { Waiting (view (mem rules.now cells.now words.now)) links.now.here.position (links_in links.now.buf.now links.now.counts.links) result }
+{
+    saturation::first_waiting(links.buf, rules, cells, words, links.counts, links.here)
 }

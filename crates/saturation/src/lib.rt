@@ -18,8 +18,9 @@ ghost use Rattle.table.specs.Layout.{mem, sets_in, view};
 ghost use Rattle.table.specs.Laid.{Formed};
 ghost use Rattle.links.specs.Records.{in_set, links_in};
 ghost use Rattle.links.specs.Held.{Held};
-ghost use Rattle.links.specs.Lent.{graph_of, SameSlices, SamePlace};
+ghost use Rattle.links.specs.Lent.{graph_of, InChains, SameSlices, SamePlace};
 ghost use Rattle.levels.specs.Lists.{Listed};
+ghost use Rattle.levels.specs.Reached.{Reached};
 ghost use Rattle.kernels.specs.Kernel.{has};
 ghost use Rattle.saturation.specs.Wanted.{Targets, ToNode, ToList, ToSpan, AtRule, AtNode, AtEvery};
 ghost use Rattle.saturation.specs.Moves.{Does, Works};
@@ -27,7 +28,7 @@ ghost use Rattle.saturation.specs.Ends.{Saturates, Shifts, Standing, Accepting, 
 
 use kernels::Bits;
 use levels::Level;
-use links::{Here, Links};
+use links::{Counts, Here, Links};
 
 // Links the target on x of node m's set, at this position, to m; nothing where there is no target.
 fn link_to(links: &mut Links, x: usize, m: usize, cells: &[u8])
@@ -73,8 +74,24 @@ fn reduce(
     ensures same { SamePlace links.old links.new }
     ensures works { Works (view (mem rules.now cells.now words.now)) links.old.here (AtRule (mem rules.now cells.now words.now) links.old.here.position n r) (graph_of links.old) (graph_of links.new) }
 {
-    let level = levels::levels(links, work, n, table::len(rules, r));
+    let level = ends(links, work, n, table::len(rules, r));
     link_level(links, work, level, table::left(rules, r), cells);
+}
+
+// The nodes that the paths of k links from node n lead to.
+fn ends(links: &Links, work: &mut [u16], n: usize, k: usize) -> Level
+    requires chained { InChains links.now }
+    requires work_len { (length work.old ≡ 12291) × (n < links.now.counts.nodes) }
+    ensures { (result.side ≤ 1) × Reached links.now.buf.now links.now.counts.links links.now.counts.nodes n k work.new result.side result.count }
+{
+    levels::levels(
+        links.buf,
+        work,
+        links.counts.nodes,
+        links.counts.links,
+        n,
+        k,
+    )
 }
 
 // The reductions at node n.
@@ -163,14 +180,22 @@ pub fn shift(links: &mut Links, x: usize, rules: &[u8], cells: &[u8], words: &[u
     link_span(links, x, here.start, cells);
 }
 
-// Whether a node here has the accept mark.
-pub fn accepts(links: &Links, rules: &[u8], cells: &[u8], words: &[u64]) -> bool
-    requires standing { Standing links.now.here links.now.buf.now links.now.counts }
-    requires formed { Formed (mem rules.now cells.now words.now) × (links.now.here.sets ≡ sets_in rules.now) }
-    ensures { Tells result (Accepting (view (mem rules.now cells.now words.now)) links.now.here.position (links_in links.now.buf.now links.now.counts.links)) }
+// Whether a node here has the accept mark. It only reads the graph, as `first_waiting` does, so these take the buffer alone, and not
+// `Links`: a caller may share it.
+pub fn accepts(
+    buf: &[u16],
+    rules: &[u8],
+    cells: &[u8],
+    words: &[u64],
+    counts: Counts,
+    here: Here,
+) -> bool
+    requires standing { Standing here buf.now counts }
+    requires formed { Formed (mem rules.now cells.now words.now) × (here.sets ≡ sets_in rules.now) }
+    ensures { Tells result (Accepting (view (mem rules.now cells.now words.now)) here.position (links_in buf.now counts.links)) }
 {
-    for m in links.here.start..links.counts.nodes {
-        let u = links.set_of(m);
+    for m in here.start..counts.nodes {
+        let u = links::set_of(buf, m);
         if cells[u * table::ROW] == table::ACCEPTING {
             return true;
         }
@@ -179,14 +204,14 @@ pub fn accepts(links: &Links, rules: &[u8], cells: &[u8], words: &[u64]) -> bool
 }
 
 // The lowest unexpanded set of the nodes here.
-fn lowest(links: &Links, cells: &[u8]) -> Option<usize>
-    requires standing { Standing links.now.here links.now.buf.now links.now.counts }
-    requires sets_in_bounds { links.now.here.sets * 128 ≤ length cells.now }
-    ensures { LowestIn links.now.buf.now cells.now links.now.here.start links.now.counts.nodes result }
+fn lowest(buf: &[u16], cells: &[u8], counts: Counts, here: Here) -> Option<usize>
+    requires standing { Standing here buf.now counts }
+    requires sets_in_bounds { here.sets * 128 ≤ length cells.now }
+    ensures { LowestIn buf.now cells.now here.start counts.nodes result }
 {
     let mut best = None;
-    for m in links.here.start..links.counts.nodes {
-        let u = links.set_of(m);
+    for m in here.start..counts.nodes {
+        let u = links::set_of(buf, m);
         if cells[u * table::ROW] == table::UNEXPANDED {
             best = match best {
                 Some(v) if v <= u => best,
@@ -198,10 +223,17 @@ fn lowest(links: &Links, cells: &[u8]) -> Option<usize>
 }
 
 // The lowest-numbered unexpanded set of a node here, found by a look at the nodes here and at no other set.
-pub fn first_waiting(links: &Links, rules: &[u8], cells: &[u8], words: &[u64]) -> Option<usize>
-    requires standing { Standing links.now.here links.now.buf.now links.now.counts }
-    requires formed { Formed (mem rules.now cells.now words.now) × (links.now.here.sets ≡ sets_in rules.now) }
-    ensures { Waiting (view (mem rules.now cells.now words.now)) links.now.here.position (links_in links.now.buf.now links.now.counts.links) result }
+pub fn first_waiting(
+    buf: &[u16],
+    rules: &[u8],
+    cells: &[u8],
+    words: &[u64],
+    counts: Counts,
+    here: Here,
+) -> Option<usize>
+    requires standing { Standing here buf.now counts }
+    requires formed { Formed (mem rules.now cells.now words.now) × (here.sets ≡ sets_in rules.now) }
+    ensures { Waiting (view (mem rules.now cells.now words.now)) here.position (links_in buf.now counts.links) result }
 {
-    lowest(links, cells)
+    lowest(buf, cells, counts, here)
 }

@@ -61,9 +61,9 @@ pub record Inserts (a b : List ℕ) (count key after : ℕ) : Type 0 where
 
 -- link k and its two nodes are in the buffer, of positions and a set that fit a byte
 pub record Readable (b : List ℕ) (k : ℕ) : Type 0 where
-  pub room : k * 6 + 5 < length b
-  pub source_room : source b k * 6 + 5 < length b
-  pub under_room : under b k * 6 + 5 < length b
+  pub room : k * 6 + 1 < length b
+  pub source_room : source b k * 6 + 4 < length b
+  pub under_room : under b k * 6 + 4 < length b
   pub end : position b (source b k) < 256
   pub start : position b (under b k) < 256
   pub set : in_set b (source b k) < 256

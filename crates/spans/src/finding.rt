@@ -3,7 +3,7 @@ ghost use Rattle.std.specs.Prelude.{◌≡◌, ◌<◌, MatchOption};
 ghost use Rattle.spans.specs.Area.{place_of};
 ghost use Rattle.spans.specs.Gathered.{OrderedAt};
 
-use super::area::{Area, key_of};
+use super::area::{Area, first, key_of};
 
 impl Area<'_> {
     // The place of the span of x from i to j, if it has one.
@@ -15,8 +15,8 @@ impl Area<'_> {
             (λ e. (e < self.now.count) × (e ≡ place_of self.now.numbers.now self.now.count x i j)) }
     {
         let key = key_of(x, i, j);
-        let from = self.first(j);
-        let ends_here = &self.numbers[from..self.first(j + 1)];
+        let from = first(self.numbers, j);
+        let ends_here = &self.numbers[from..first(self.numbers, j + 1)];
         match ends_here.binary_search(&(key as u64)) {
             Ok(e) => Some(from + e),
             Err(_) => None,

@@ -4,7 +4,7 @@ ghost use Rattle.spans.specs.Area.{area_for};
 ghost use Rattle.spans.specs.Gathered.{First, Ascending};
 ghost use Rattle.spans.specs.Steps.{Passed, Begun};
 
-use super::area::{Area, FIRSTS};
+use super::area::{Area, FIRSTS, end};
 
 impl Area<'_> {
     // Puts the first place of each end up to n + 1, which no span has: behind the ends of the line stands the number of spans.
@@ -27,7 +27,7 @@ impl Area<'_> {
         ensures { First self.now.numbers.now self.now.count j result }
     {
         for e in from..self.count {
-            if self.end(e) >= j {
+            if end(self.numbers, e) >= j {
                 return e;
             }
         }

@@ -34,21 +34,22 @@ impl Area<'_> {
         self.take_links(links, count, &symbols);
         let n = line.len();
         self.insert(key_of(Symbol::START.0 as usize, 0, n));
-        self.forget();
+        let spans = self.count;
+        self.forget(spans);
         self.put_firsts(n);
     }
 
-    // Keeps nothing of any span.
-    fn forget(&mut self)
-        requires { 8194 + self.old.count ≤ length self.old.numbers.now }
+    // Keeps nothing of the first n spans.
+    fn forget(&mut self, n: usize)
+        requires { 8194 + n ≤ length self.old.numbers.now }
         ensures forgotten { self.new.numbers.now ≡
-            write_words (write_words self.old.numbers.now 4097 (λ k. 0) self.old.count) 8194 (λ k. 0) self.old.count }
+            write_words (write_words self.old.numbers.now 4097 (λ k. 0) n) 8194 (λ k. 0) n }
         ensures long { length self.new.numbers.now ≡ length self.old.numbers.now }
         ensures count { self.new.count ≡ self.old.count }
         ensures same { self.new.numbers.ghost_name ≡ self.old.numbers.ghost_name }
     {
-        kernels::clear(self.numbers, COSTS, self.count);
-        kernels::clear(self.numbers, CHOICES, self.count);
+        kernels::clear(self.numbers, COSTS, n);
+        kernels::clear(self.numbers, CHOICES, n);
     }
 
     // Puts the keys of all links, and of nothing else.

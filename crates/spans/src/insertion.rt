@@ -5,7 +5,7 @@ ghost use Rattle.spans.specs.Area.{key_at};
 ghost use Rattle.spans.specs.Gathered.{Ascending};
 ghost use Rattle.spans.specs.Steps.{Belongs, Opened, Inserts};
 
-use super::area::Area;
+use super::area::{Area, number};
 
 impl Area<'_> {
     // Puts the key among the places, unless it is there.
@@ -29,7 +29,7 @@ impl Area<'_> {
         ensures { Belongs self.now.numbers.now self.now.count key result }
     {
         for e in (0..self.count).rev() {
-            if self.number(e) <= key {
+            if number(self.numbers, e) <= key {
                 return e + 1;
             }
         }
@@ -41,7 +41,7 @@ impl Area<'_> {
         requires { e ≤ length self.now.numbers.now }
         ensures { Tells result ((0 < e) × (key_at self.now.numbers.now (e - 1) ≡ key)) }
     {
-        e > 0 && self.number(e - 1) == key
+        e > 0 && number(self.numbers, e - 1) == key
     }
 
     // Moves the keys from place `from` on one place up.

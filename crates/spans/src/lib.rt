@@ -8,4 +8,7 @@ mod insertion; // insertion.rt: a key put among the others
 mod firsts; // firsts.rt: where each end begins
 mod symbols_of; // symbols_of.rt: the symbol that each set is reached by
 
-pub use area::{Area, BESIDE, CHOICES, COSTS, FIRSTS, SPANS};
+pub use area::{
+    Area, BESIDE, CHOICES, COSTS, FIRSTS, SPANS, cost, end, end_of, first, number, rule, set_kept,
+    start, symbol,
+};

@@ -4,4 +4,4 @@ use Rattle.levels.specs.Reached.{Reached}
 use Rattle.levels.proofs.levels.Given as goal
 
 abbrev pub invariant-loop : goal.invariant-loop
-invariant-loop l = (l.level.side ≤ 1) × Reached l.links.buf.now l.links.counts.links l.links.counts.nodes l.n l.counter l.work l.level.side l.level.count
+invariant-loop l = (l.level.side ≤ 1) × Reached l.buf l.links l.nodes l.n l.counter l.work l.level.side l.level.count

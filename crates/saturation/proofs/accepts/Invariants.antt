@@ -3,4 +3,4 @@ use Rattle.saturation.specs.Ends.{Marked}
 use Rattle.saturation.proofs.accepts.Given as goal
 
 abbrev pub invariant-loop-m : goal.invariant-loop-m
-invariant-loop-m l = Marked l.links.buf.now l.cells l.links.here.start l.m 3 → ⊥
+invariant-loop-m l = Marked l.buf l.cells l.fn.here.start l.m 3 → ⊥

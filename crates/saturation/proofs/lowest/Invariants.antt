@@ -3,4 +3,4 @@ use Rattle.saturation.specs.Ends.{LowestIn}
 use Rattle.saturation.proofs.lowest.Given as goal
 
 abbrev pub invariant-loop-m : goal.invariant-loop-m
-invariant-loop-m l = LowestIn l.links.buf.now l.cells l.links.here.start l.m l.best
+invariant-loop-m l = LowestIn l.buf l.cells l.fn.here.start l.m l.best

@@ -22,4 +22,4 @@ link_level-requires-clause-le_x c =
 pub returns-clause-works : goal.returns-clause-works
 returns-clause-works c =
     rule_works c.requires.formed.0 c.requires.held.0 c.requires.formed.1 _ _ _ _ _ c.left.ensures c.len.ensures c.requires.n_lt_nodes.0 c.requires.n_lt_nodes.1.0 c.requires.n_lt_nodes.1.1.0
-    c.requires.n_lt_nodes.1.1.1 c.levels-level.ensures.1 c.link_level.ensures.does
+    c.requires.n_lt_nodes.1.1.1 c.ends-level.ensures.1 c.link_level.ensures.does

@@ -4,7 +4,7 @@ use Rattle.levels.proofs.Below.{Spreading}
 use Rattle.levels.proofs.Level.spread.Given as goal
 
 abbrev pub invariant-loop-k : goal.invariant-loop-k
-invariant-loop-k l = (l.self.side ≡ l.initial.self.side) × Spreading l.links.buf.now l.links.counts.links l.self.side l.links.counts.nodes l.n l.k l.initial.work l.initial.self.count l.work l.self.count
+invariant-loop-k l = (l.self.side ≡ l.initial.self.side) × Spreading l.buf l.links l.self.side l.nodes l.n l.k l.initial.work l.initial.self.count l.work l.self.count
 
 abbrev pub decreases-loop-k : goal.decreases-loop-k
 decreases-loop-k l = l.k

@@ -5,4 +5,4 @@ use Rattle.levels.proofs.Below.{Going}
 use Rattle.levels.proofs.Level.under.Given as goal
 
 abbrev pub invariant-loop-i : goal.invariant-loop-i
-invariant-loop-i l = (l.next.side ≡ 1 - l.self.side) × Going l.links.buf.now l.links.counts.links l.links.counts.nodes l.initial.work l.self.side l.self.count l.i l.work l.next.side l.next.count
+invariant-loop-i l = (l.next.side ≡ 1 - l.self.side) × Going l.buf l.links l.nodes l.initial.work l.self.side l.self.count l.i l.work l.next.side l.next.count
