@@ -24,6 +24,13 @@ pub record Filled {E : Type 0} (before : List ℕ) (held : ℕ) (after : List �
 
 -- ---- a turn
 
+-- how scripts stand of which one could not be read
+abbrev pub at_best_unread : Standing → Standing
+at_best_unread More = Unread
+at_best_unread Whole = Unread
+at_best_unread Unread = Unread
+at_best_unread Unwritten = Unwritten
+
 -- a script stands so, unless what it printed could not be written
 abbrev pub Unless : Standing → Standing → Type 0
 Unless s r = (r ≡ s) ⊎ (r ≡ Unwritten)

@@ -12,7 +12,7 @@ const ENAMETOOLONG: i32 = 36;
 const EILSEQ: i32 = 84;
 
 // How many arguments there are, the program's name among them.
-pub fn arg_count(rt: &HostRuntime) -> usize {
+pub(crate) fn arg_count(rt: &HostRuntime) -> usize {
     let mut word = [0u8; WORD];
     for i in 0..usize::MAX {
         if let Err(FillError::NotPresent) = rt.arg(i, &mut word) {
@@ -23,17 +23,17 @@ pub fn arg_count(rt: &HostRuntime) -> usize {
 }
 
 // What is wrong with an argument that is longer than any path.
-pub fn name_too_long() -> Error {
+pub(crate) fn name_too_long() -> Error {
     Error::from_raw_os_error(ENAMETOOLONG)
 }
 
 // Opens the file for reading.
-pub fn open(rt: &HostRuntime, path: &[u8]) -> Result<File> {
+pub(crate) fn open(rt: &HostRuntime, path: &[u8]) -> Result<File> {
     File::open(rt, text_of(path)?)
 }
 
 // Opens the file for writing, empty.
-pub fn overwrite(rt: &HostRuntime, path: &[u8]) -> Result<File> {
+pub(crate) fn overwrite(rt: &HostRuntime, path: &[u8]) -> Result<File> {
     File::create(rt, text_of(path)?)
 }
 

@@ -48,7 +48,11 @@ fn run_all(rt: &HostRuntime, first: usize, n: usize) -> Standing {
     }
     let mut standing = Standing::Whole;
     for i in first..n {
-        standing = standing.max(run_named(rt, i));
+        let next = run_named(rt, i);
+        standing = match standing {
+            Standing::Whole => next,
+            _ => next.at_best_unread(),
+        };
         if standing == Standing::Unwritten {
             return standing;
         }

@@ -2,7 +2,7 @@
 //
 // The buffer has room for the longest text of a line behind 65,536 bytes that wait, so a line's text always is in one piece. After a
 // write that failed nothing more is written: what follows a gap would read as if it were whole.
-ghost use Rattle.std.specs.Prelude.{false, ◌≡◌, ◌≤◌, length};
+ghost use Rattle.std.specs.Prelude.{true, false, ◌≡◌, ◌≤◌, length};
 ghost use Rattle.reader.specs.Output.{Ready};
 
 use crate::again::may_try_again;
@@ -24,9 +24,11 @@ pub struct Output {
 }
 
 impl Output {
-    pub fn new() -> Output {
+    pub fn new() -> Output
+        ensures { (result.used ≡ 0) × (result.is_written ≡ true) }
+    {
         Output {
-            bytes: [0; OUTPUT],
+            bytes: zeros(),
             used: 0,
             is_written: true,
         }
@@ -58,6 +60,13 @@ impl Output {
         }
         self.used = 0;
     }
+}
+
+// A buffer of zeros: on its own, for what knows its numbers one by one is slow to prove.
+fn zeros() -> [u8; OUTPUT]
+    ensures { length result ≡ 1122304 }
+{
+    [0; OUTPUT]
 }
 
 // Writes all of the text to standard output.

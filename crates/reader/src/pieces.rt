@@ -5,7 +5,7 @@
 ghost use Rattle.std.specs.Prelude.{◌≡◌};
 ghost use Rattle.table.specs.Layout.{mem};
 ghost use Rattle.reader.specs.Desk.{state_of};
-ghost use Rattle.reader.specs.Pieces.{Behind, Unless, Brought, RanPiece, RanEnd, Turned, RanScript, RanFromBlank};
+ghost use Rattle.reader.specs.Pieces.{Behind, at_best_unread, Unless, Brought, RanPiece, RanEnd, Turned, RanScript, RanFromBlank};
 
 use crate::failure::say;
 use crate::input::Held;
@@ -21,6 +21,15 @@ pub enum Standing {
     More,
     Unread,
     Unwritten,
+}
+
+impl Standing {
+    // After a script that could not be read, however this one stands.
+    pub fn at_best_unread(self) -> Standing
+        ensures { result ≡ at_best_unread self }
+    {
+        self.max(Standing::Unread)
+    }
 }
 
 // Runs the script that the input brings, to its end.

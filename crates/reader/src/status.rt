@@ -5,7 +5,7 @@ use std::env::Env;
 use std::io::{Error, Write};
 
 // Whether the arguments, so many of them, begin with `--status FILE`.
-pub fn has_status(rt: &HostRuntime, n: usize) -> bool {
+pub(crate) fn has_status(rt: &HostRuntime, n: usize) -> bool {
     let mut word = [0u8; WORD];
     match rt.arg(1, &mut word) {
         Ok(k) => n >= 3 && &word[..k] == b"--status".as_slice(),
@@ -14,13 +14,13 @@ pub fn has_status(rt: &HostRuntime, n: usize) -> bool {
 }
 
 // Says that all went well.
-pub fn say_done(rt: &HostRuntime) {
+pub(crate) fn say_done(rt: &HostRuntime) {
     tell(rt, b"done\n");
 }
 
 // Says that nobody reads what is printed: by the word `unread` in the file after `--status`, so that `./skydoublet` can keep silent of
 // it where its caller wants that, else on standard error.
-pub fn say_unread(rt: &HostRuntime, error: Error) {
+pub(crate) fn say_unread(rt: &HostRuntime, error: Error) {
     if has_status(rt, arg_count(rt)) {
         tell(rt, b"unread\n");
     } else {
