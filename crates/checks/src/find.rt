@@ -25,10 +25,12 @@ pub fn check_add(rules: &[u8], left: u8, right: &[u8]) -> Result<(Option<usize>,
     ensures { AddFound rules.now left right.now result }
 {
     let rule = symbols::check_rule(left, right)?;
-    if find(rules, table::CURRENT, rule).is_some() {
+    let there = find(rules, table::CURRENT, rule).is_some();
+    let full = is_full(rules);
+    if there {
         return Err(Refusal::There);
     }
-    if is_full(rules) {
+    if full {
         return Err(Refusal::NoRules);
     }
     let number = find(rules, table::WITHDRAWN, rule).or_else(|| lowest_free(rules));

@@ -23,10 +23,12 @@ pub fn check(
 ) -> Result<(), Refusal>
     ensures { Checks (mem rules.now cells.now words.now) room pool line.now result }
 {
-    if !form::is_formed(rules, cells, words) {
+    let formed = form::is_formed(rules, cells, words);
+    let fits = pool_fits(room, pool);
+    if !formed {
         return Err(Refusal::BadTable);
     }
-    if !pool_fits(room, pool) {
+    if !fits {
         return Err(Refusal::BadPool);
     }
     if line.len() > MOST_TOKENS {

@@ -1,5 +1,7 @@
--- `check_add` meets its contract: 01's order of checks, then the choice of a number. Assumes nothing.
-use mathlib.Core.Path.{sym, ◌∙◌}
+-- `check_add` meets its contract: 01's order of checks, then the choice of a number. That the rule isn't there is found by `cc` and
+-- not cited, so that checks in another order are refused by that fact. Assumes nothing.
+use mathlib.Core.Bool.{false}
+use mathlib.Core.Path.{◌≡◌, sym, ◌∙◌}
 use borrow.Author.Rules.{rules}
 use Rattle.std.proofs.lemmas.Result.{err_from_is_err_and}
 use Rattle.checks.proofs.Adding.{add-refused, add-there, add-full, add-done}
@@ -11,17 +13,18 @@ returns-in_err-rule c =
     let p = err_from_is_err_and c.from_residual.result c.from_residual.ensures.1 in
     rw (p.1, p.2) (add-refused _ _ _ _ c.in_err-rule.ensures)
 
-pub returns-then-is_some : goal.returns-then-is_some
-returns-then-is_some c =
-    add-there _ _ _ _ c.in_ok-rule.ensures c.requires (some_below _ c.find.result c.find.ensures (sym c.is_some.ensures ∙ c.if-is_some.true))
+pub returns-then-there : goal.returns-then-there
+returns-then-there c =
+    add-there _ _ _ _ c.in_ok-rule.ensures c.requires (some_below _ c.find.result c.find.ensures (sym c.is_some-there.ensures ∙ c.if-there.true))
 
-pub returns-then-is_full : goal.returns-then-is_full
-returns-then-is_full c =
-    add-full _ _ _ _ c.in_ok-rule.ensures c.requires
-    (none_below _ c.find.result c.find.ensures (sym c.is_some.ensures ∙ c.if-is_some.false)) c.is_full.ensures c.if-is_full.true
+pub returns-then-full : goal.returns-then-full
+returns-then-full c =
+    let absent : c.is_some-there.result ≡ false = cc in
+    add-full _ _ _ _ c.in_ok-rule.ensures c.requires (none_below _ c.find.result c.find.ensures (sym c.is_some-there.ensures ∙ absent))
+    c.is_full-full.ensures c.if-full.true
 
 pub returns : goal.returns
 returns c =
     add-done _ _ _ _ c.in_ok-rule.ensures c.requires
-    (none_below _ c.find.result c.find.ensures (sym c.is_some.ensures ∙ c.if-is_some.false)) c.is_full.ensures c.if-is_full.false
+    (none_below _ c.find.result c.find.ensures (sym c.is_some-there.ensures ∙ c.if-there.false)) c.is_full-full.ensures c.if-full.false
     c.find-2.result c.or_else-number.result c.find-2.ensures c.or_else-number.ensures (λ k. search rules)
