@@ -25,6 +25,7 @@ pub fn check_add(rules: &[u8], left: u8, right: &[u8]) -> Result<(Option<usize>,
     ensures { AddFound rules.now left right.now result }
 {
     let rule = symbols::check_rule(left, right)?;
+    // both are asked first, so that only the order of the answers is left to get wrong (must-fail/full_before_there)
     let there = find(rules, table::CURRENT, rule).is_some();
     let full = is_full(rules);
     if there {

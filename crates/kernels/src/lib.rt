@@ -74,6 +74,7 @@ pub fn equal(a: &[u64], i: usize, b: &[u64], j: usize) -> bool
     requires { (i + 16 ≤ length a.now) × (j + 16 ≤ length b.now) }
     ensures { result ≡ same a.now i b.now j }
 {
+    // no `==` of two slices: the form test of a large table took half as long again
     for k in 0..KERNEL_WORDS {
         if a[i + k] != b[j + k] {
             return false;

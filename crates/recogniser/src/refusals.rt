@@ -23,6 +23,7 @@ pub fn check(
 ) -> Result<(), Refusal>
     ensures { Checks (mem rules.now cells.now words.now) room pool line.now result }
 {
+    // both are asked first, so that only the order of the answers is left to get wrong (must-fail/pool_checked_before_table)
     let formed = form::is_formed(rules, cells, words);
     let fits = pool_fits(room, pool);
     if !formed {

@@ -59,6 +59,7 @@ pub fn put_parse(read: Result<Verdict, Refusal>, sets: usize, text: &mut Text)
 fn is_past_checks(refusal: Refusal) -> bool
     ensures { result ≡ past_checks (refusal_number refusal) }
 {
+    // an arm for each, which an edit can turn (must-fail/no_links_printed_alone)
     match refusal {
         Refusal::NoSets => true,
         Refusal::NoLinks => true,
