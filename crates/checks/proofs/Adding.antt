@@ -8,7 +8,6 @@ use native.Mathlib.Omega.{arith}
 use borrow.Author.Tests.{eq-eqb, ne_eqb, lt-ltb, le-ltb}
 use lib.Dec.{T, eqb}
 use lib.ListN.{length}
-use Rattle.std.specs.Option.{MatchOption}
 use Rattle.std.specs.Prelude.{Option, Some, None, Ok, Err}
 use Rattle.laws.specs.Loops.{all_below}
 use Rattle.laws.specs.Lists.{someIn, up_from}
@@ -142,9 +141,3 @@ module _ (rs : List ℕ) (x : ℕ) (w : List ℕ) where
             where
               states : (r : ℕ) → r < length (view_rules rs) → (rule_at (view_rules rs) r).state ≤ WITHDRAWN
               states r l = let m : r < rules_in rs = omega (arith, view-length rs) in subst (λ p. p.state ≤ WITHDRAWN) (sym (rule_read rs r m)) (f.form r m).states
-
-        -- F is what the search for a free number tells, which is made only where none is taken back
-        pub add-done : {F : Type 0} (o p : Option ℕ) → Lowest (rules_in rs) (is_at rs 2 y) o → MatchOption o F (λ q. p ≡ Some q)
-            → (F → Lowest (rules_in rs) (has_state rs 0) p) → AddFound rs x w (Ok (p, y))
-        add-done None p l h free = add_free l p (free h)
-        add-done (Some q) p l h free = subst (λ k. AddFound rs x w (Ok (k, y))) (sym h) (add_back l)

@@ -34,8 +34,10 @@ pub fn check_add(rules: &[u8], left: u8, right: &[u8]) -> Result<(Option<usize>,
     if full {
         return Err(Refusal::NoRules);
     }
-    let number = find(rules, table::WITHDRAWN, rule).or_else(|| lowest_free(rules));
-    Ok((number, rule))
+    if let Some(back) = find(rules, table::WITHDRAWN, rule) {
+        return Ok((Some(back), rule));
+    }
+    Ok((lowest_free(rules), rule))
 }
 
 // The lowest number with the rule in that state.

@@ -31,7 +31,7 @@ pub struct Level {
 }
 
 impl Level {
-    // Node number i of the list.
+    // Node number i of the list. One place behind the longest list may be asked for: that an index is too far is for `has` to refuse.
     pub fn node(self, work: &[u16], i: usize) -> usize
         requires { (length work.now ≡ 12291) × ((self.side ≤ 1) × (i ≤ 4097)) }
         ensures { result ≡ listed work.now self.side i }

@@ -39,7 +39,8 @@ pub fn settle(
     }
 }
 
-// The lowest-numbered unexpanded set of a node here.
+// The lowest-numbered unexpanded set of a node here: `first_waiting` of the graph whole. Lent as a part, its slice would not come back to
+// `settle` as it was.
 fn first_waiting(links: &Links, rules: &[u8], cells: &[u8], words: &[u64]) -> Option<usize>
     requires standing { Standing links.now.here links.now.buf.now links.now.counts }
     requires formed { Formed (mem rules.now cells.now words.now) × (links.now.here.sets ≡ sets_in rules.now) }

@@ -62,7 +62,7 @@ impl Output {
     }
 }
 
-// A buffer of zeros: on its own, for what knows its numbers one by one is slow to prove.
+// A buffer of zeros, in a function of its own: a proof that sees its 1,122,304 numbers one by one doesn't end.
 fn zeros() -> [u8; OUTPUT]
     ensures { length result ≡ 1122304 }
 {

@@ -78,7 +78,8 @@ fn reduce(
     link_level(links, work, level, table::left(rules, r), cells);
 }
 
-// The nodes that the paths of k links from node n lead to.
+// The nodes that the paths of k links from node n lead to: `levels` of the graph whole. Lent as a part, its slice would not come back to
+// `reduce` as it was.
 fn ends(links: &Links, work: &mut [u16], n: usize, k: usize) -> Level
     requires chained { InChains links.now }
     requires work_len { (length work.old ≡ 12291) × (n < links.now.counts.nodes) }

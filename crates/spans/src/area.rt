@@ -1,5 +1,5 @@
 // The work area of a derivation, and its numbers one at a time. Each function is a load or two, or a store; its contract asks that
-// the place be there.
+// the place be there. They take the slice and not `Area`, which holds it to be changed: a caller may share it, and need count nothing.
 ghost use Rattle.std.specs.Prelude.{◌≡◌, ◌+◌, ◌<◌, length, get_or};
 ghost use Rattle.spans.specs.Area.{key_of, symbol_at, start_at, end_at, cost_at, choice_at, first_at, rule_of, end_of, set_kept};
 

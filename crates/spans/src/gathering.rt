@@ -35,21 +35,20 @@ impl Area<'_> {
         let n = line.len();
         self.insert(key_of(Symbol::START.0 as usize, 0, n));
         let spans = self.count;
-        self.forget(spans);
+        self.forget(COSTS, spans);
+        self.forget(CHOICES, spans);
         self.put_firsts(n);
     }
 
-    // Keeps nothing of the first n spans.
-    fn forget(&mut self, n: usize)
-        requires { 8194 + n ≤ length self.old.numbers.now }
-        ensures forgotten { self.new.numbers.now ≡
-            write_words (write_words self.old.numbers.now 4097 (λ k. 0) n) 8194 (λ k. 0) n }
+    // Makes the n numbers from `from` on zero: what was kept of so many spans.
+    fn forget(&mut self, from: usize, n: usize)
+        requires { from + n ≤ length self.old.numbers.now }
+        ensures forgotten { self.new.numbers.now ≡ write_words self.old.numbers.now from (λ k. 0) n }
         ensures long { length self.new.numbers.now ≡ length self.old.numbers.now }
         ensures count { self.new.count ≡ self.old.count }
         ensures same { self.new.numbers.ghost_name ≡ self.old.numbers.ghost_name }
     {
-        kernels::clear(self.numbers, COSTS, n);
-        kernels::clear(self.numbers, CHOICES, n);
+        kernels::clear(self.numbers, from, n);
     }
 
     // Puts the keys of all links, and of nothing else.

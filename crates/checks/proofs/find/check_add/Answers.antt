@@ -4,7 +4,7 @@ use mathlib.Core.Bool.{false}
 use mathlib.Core.Path.{◌≡◌, sym, ◌∙◌}
 use borrow.Author.Rules.{rules}
 use Rattle.std.proofs.lemmas.Result.{err_from_is_err_and}
-use Rattle.checks.proofs.Adding.{add-refused, add-there, add-full, add-done}
+use Rattle.checks.proofs.Adding.{add-refused, add-there, add-full, add_back, add_free}
 use Rattle.checks.proofs.States.{some_below, none_below}
 use Rattle.checks.proofs.find.check_add.Goals as goal
 
@@ -23,8 +23,14 @@ returns-then-full c =
     add-full _ _ _ _ c.in_ok-rule.ensures c.requires (none_below _ c.find.result c.find.ensures (sym c.is_some-there.ensures ∙ absent))
     c.is_full-full.ensures c.if-full.true
 
+pub returns-in-Some : goal.returns-in-Some
+returns-in-Some c =
+    add_back _ _ _ _ c.in_ok-rule.ensures c.requires
+    (none_below _ c.find.result c.find.ensures (sym c.is_some-there.ensures ∙ c.if-there.false)) c.is_full-full.ensures c.if-full.false
+    c.in-Some.ensures
+
 pub returns : goal.returns
 returns c =
-    add-done _ _ _ _ c.in_ok-rule.ensures c.requires
+    add_free _ _ _ _ c.in_ok-rule.ensures c.requires
     (none_below _ c.find.result c.find.ensures (sym c.is_some-there.ensures ∙ c.if-there.false)) c.is_full-full.ensures c.if-full.false
-    c.find-2.result c.or_else-number.result c.find-2.ensures c.or_else-number.ensures (λ k. search rules)
+    c.in_default.ensures _ c.lowest_free.ensures
