@@ -175,9 +175,10 @@ pub fn put(b: &mut [u16], i: usize, x: usize)
     b[i] = x as u16;
 }
 
-// The source node of link k.
+// The source node of link k. It asks for a place more than it reads, as `position` does: an edit that reads the wrong one is then refused
+// by what is promised, and not by an index.
 pub fn source(b: &[u16], k: usize) -> usize
-    requires { k * 6 < length b.now }
+    requires { k * 6 + 1 < length b.now }
     ensures { result ≡ source b.now k }
 {
     number(b, k * RECORD)
@@ -201,7 +202,7 @@ pub fn before(b: &[u16], k: usize) -> usize
 
 // The position of node n.
 pub fn position(b: &[u16], n: usize) -> usize
-    requires { n * 6 + 3 < length b.now }
+    requires { n * 6 + 4 < length b.now }
     ensures { result ≡ position b.now n }
 {
     number(b, n * RECORD + POSITION)
