@@ -70,8 +70,8 @@ pub fn newline(text: &[u8], at: usize, n: usize) -> usize
     ensures first { result ≡ at + index_of NEWLINE (slice at n text.now) }
     ensures within { result ≤ n }
 {
-    match text[at..n].iter().position(|&b| b == b'\n') {
-        Some(k) => at + k,
+    match (at..n).find(|&i| text[i] == b'\n') {
+        Some(i) => i,
         None => n,
     }
 }
