@@ -199,8 +199,9 @@ module _ (line : List ℕ) (at : ℕ) (inside : at < length line) where
         (number-ended d (t.is ∙ (λ i. digit (z i) ∷ drop ((n ∙ sym e) i) line) ∙ ap (λ x. x ++ drop d.at line) (sym (decimal_1 0 (omega arith)) ∙ ap decimal (sym z)))
         (omega arith) (omega (arith, t.inside)) (λ x h. inl z))
 
-    pub digits-stopped : {b : ℕ} {d : Digits} {r : Option (ℕ × Cursor)} → b ≤ 10000 → Spelled line (at + 1) b d → digit_at line d.at ≡ None → r ≡ Some (d.value, record { at = d.at })
-        → NumberAt line at r
+    -- the same where no digit follows
+    pub digits-stopped : {b : ℕ} {d : Digits} {r : Option (ℕ × Cursor)} → b ≤ 10000 → Spelled line (at + 1) b d
+        → digit_at line d.at ≡ None → r ≡ Some (d.value, record { at = d.at }) → NumberAt line at r
     unfolding unless_digit
     digits-stopped {b} {d} {r} m s n q =
         subst (λ r. NumberAt line at r) (ap (unless_digit d) n ∙ sym q)

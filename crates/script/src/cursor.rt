@@ -1,5 +1,5 @@
 // The script cursor: a place in a line, and the steps that read on from it.
-ghost use Rattle.std.specs.Prelude.{◌≡◌, ◌<◌, None, MatchOption};
+ghost use Rattle.std.specs.Prelude.{◌≡◌, ◌≢◌, ◌<◌, None, MatchOption};
 ghost use Rattle.script.specs.Reading.{LetterAt, NumberAt, LineEndAt, digit_at, more, ended};
 
 // A place in a line.
@@ -76,7 +76,7 @@ impl Digits {
     // With the digit that follows them, if one does.
     fn more(self, line: &[u8]) -> Option<Digits>
         requires { self.value < 1000 }
-        ensures { MatchOption result (digit_at line.now self.at ≡ None) (λ d. d ≡ more line.now self) }
+        ensures { MatchOption result (digit_at line.now self.at ≡ None) (λ d. (digit_at line.now self.at ≢ None) × (d ≡ more line.now self)) }
     {
         let d = digit(line, self.at)?;
         Some(Digits {

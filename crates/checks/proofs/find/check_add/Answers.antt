@@ -2,7 +2,6 @@
 -- not cited, so that checks in another order are refused by that fact. Assumes nothing.
 use mathlib.Core.Bool.{false}
 use mathlib.Core.Path.{◌≡◌, sym, ◌∙◌}
-use borrow.Author.Rules.{rules}
 use Rattle.std.proofs.lemmas.Result.{err_from_is_err_and}
 use Rattle.checks.proofs.Adding.{add-refused, add-there, add-full, add_back, add_free}
 use Rattle.checks.proofs.States.{some_below, none_below}
@@ -15,7 +14,8 @@ returns-in_err-rule c =
 
 pub returns-then-there : goal.returns-then-there
 returns-then-there c =
-    add-there _ _ _ _ c.in_ok-rule.ensures c.requires (some_below _ c.find.result c.find.ensures (sym c.is_some-there.ensures ∙ c.if-there.true))
+    add-there _ _ _ _ c.in_ok-rule.ensures c.requires
+    (some_below _ c.find.result c.find.ensures (sym c.is_some-there.ensures ∙ c.if-there.true))
 
 pub returns-then-full : goal.returns-then-full
 returns-then-full c =

@@ -18,9 +18,10 @@ returns-then-not-fits c =
 
 pub returns-then-line-gt-MOST_TOKENS : goal.returns-then-line-gt-MOST_TOKENS
 returns-then-line-gt-MOST_TOKENS c =
-    long_line (tells_yes _ c.is_formed-formed.ensures c.if-not-formed.false) (tells_yes _ c.pool_fits-fits.ensures c.if-not-fits.false) (omega arith)
+    long_line (tells_yes _ c.is_formed-formed.ensures c.if-not-formed.false)
+    (tells_yes _ c.pool_fits-fits.ensures c.if-not-fits.false) (omega arith)
 
 pub returns-then-not-are_tokens : goal.returns-then-not-are_tokens
 returns-then-not-are_tokens c =
-    bad_token (tells_yes _ c.is_formed-formed.ensures c.if-not-formed.false) (tells_yes _ c.pool_fits-fits.ensures c.if-not-fits.false) (omega arith)
-    (fails (cc))
+    bad_token (tells_yes _ c.is_formed-formed.ensures c.if-not-formed.false)
+    (tells_yes _ c.pool_fits-fits.ensures c.if-not-fits.false) (omega arith) (fails (cc))

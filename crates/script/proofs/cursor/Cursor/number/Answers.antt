@@ -30,25 +30,37 @@ returns-in_default c = let l = c.in_ok-get.ensures.lookup in
     c.in_default.ensures (ap Some c.read.ensures)
 
 pub more-requires-2 : goal.more-requires-2
-more-requires-2 c = let s = spelled_next (omega arith) c.in-Some.ensures (spelled_one c.in_ok-first.ensures (omega arith) (omega arith)) in omega (arith, s.below)
+more-requires-2 c = let s = spelled_next (omega arith) c.in-Some.ensures.1 (spelled_one c.in_ok-first.ensures (omega arith) (omega arith)) in
+    omega (arith, s.below)
 
 pub returns-in_default-more : goal.returns-in_default-more
 returns-in_default-more c = let l = c.in_ok-get.ensures.lookup in
     digits-stopped _ _ l.3.0 (sym (l.3.1 0) ∙ c.if-branch-ne32.false) (omega arith)
-    (spelled_next (omega arith) c.in-Some.ensures (spelled_one c.in_ok-first.ensures (omega arith) (omega arith)))
+    (spelled_next (omega arith) c.in-Some.ensures.1
+    (spelled_one c.in_ok-first.ensures (omega arith) (omega arith)))
     c.in_default-more.ensures (ap Some c.read-in_default-more.ensures)
 
 pub more-requires-3 : goal.more-requires-3
-more-requires-3 c = let s = spelled_next (omega arith) c.in-Some-more.ensures (spelled_next (omega arith) c.in-Some.ensures (spelled_one c.in_ok-first.ensures (omega arith) (omega arith))) in omega (arith, s.below)
+more-requires-3 c =
+    let s =
+    spelled_next (omega arith) c.in-Some-more.ensures.1
+    (spelled_next (omega arith) c.in-Some.ensures.1
+    (spelled_one c.in_ok-first.ensures (omega arith) (omega arith))) in
+    omega (arith, s.below)
 
 pub returns-in_default-more-2 : goal.returns-in_default-more-2
 returns-in_default-more-2 c = let l = c.in_ok-get.ensures.lookup in
     digits-stopped _ _ l.3.0 (sym (l.3.1 0) ∙ c.if-branch-ne32.false) (omega arith)
-    (spelled_next (omega arith) c.in-Some-more.ensures (spelled_next (omega arith) c.in-Some.ensures (spelled_one c.in_ok-first.ensures (omega arith) (omega arith))))
+    (spelled_next (omega arith) c.in-Some-more.ensures.1
+    (spelled_next (omega arith) c.in-Some.ensures.1
+    (spelled_one c.in_ok-first.ensures (omega arith) (omega arith))))
     c.in_default-more-2.ensures (ap Some c.read-in_default-more-2.ensures)
 
 pub returns : goal.returns
 returns c = let l = c.in_ok-get.ensures.lookup in
     digits-ended _ _ l.3.0 (sym (l.3.1 0) ∙ c.if-branch-ne32.false)
-    (spelled_next (omega arith) c.in-Some-more-2.ensures (spelled_next (omega arith) c.in-Some-more.ensures (spelled_next (omega arith) c.in-Some.ensures (spelled_one c.in_ok-first.ensures (omega arith) (omega arith)))))
+    (spelled_next (omega arith) c.in-Some-more-2.ensures.1
+    (spelled_next (omega arith) c.in-Some-more.ensures.1
+    (spelled_next (omega arith) c.in-Some.ensures.1
+    (spelled_one c.in_ok-first.ensures (omega arith) (omega arith)))))
     c.ended-2.ensures

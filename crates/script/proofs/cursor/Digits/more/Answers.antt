@@ -1,5 +1,6 @@
 -- `Digits::more` meets its contract. Assumes nothing.
-use mathlib.Core.Path.{sym, ap}
+use mathlib.Core.Path.{sym, ap, ◌∙◌}
+use Rattle.std.proofs.lemmas.Option.{none-some}
 use native.Mathlib.Omega.{arith}
 use Rattle.script.specs.Reading.{with_digit}
 use Rattle.script.proofs.Reading.{digit-there}
@@ -13,4 +14,4 @@ overflow_add-result-2 c = let t = digit-there (sym c.in_ok-d.ensures) in omega (
 
 pub returns : goal.returns
 unfolding with_digit
-returns c = ap (with_digit c.args.self) c.in_ok-d.ensures
+returns c = (λ e. none-some _ (sym e ∙ sym c.in_ok-d.ensures), ap (with_digit c.args.self) c.in_ok-d.ensures)
